@@ -1,0 +1,13 @@
+pub mod Corners
+pub mod Digits
+pub mod Duals
+pub mod Enclosure
+pub mod Ends
+pub mod Fractions
+pub mod Monotone
+pub mod Padding
+pub mod Pairs
+pub mod Products
+pub mod Spelled
+pub mod Spelling
+pub mod Written
