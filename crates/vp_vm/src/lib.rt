@@ -1,0 +1,12 @@
+//! The word machine: it executes checked code, record by record (`docs/machine.md`).
+#![tactic(auto)]
+
+mod compare;
+mod execute;
+mod machine;
+mod steps;
+#[cfg(test)]
+mod tests;
+
+pub use machine::{Machine, VmReply};
+pub use steps::Steps;
