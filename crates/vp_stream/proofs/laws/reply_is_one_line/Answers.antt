@@ -1,0 +1,5 @@
+use Rattle.vp_stream.proofs.OneLine.{reply_is_line}
+use Rattle.vp_stream.proofs.laws.reply_is_one_line.Goals as goal
+
+pub returns : goal.returns
+returns c = reply_is_line

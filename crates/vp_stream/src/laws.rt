@@ -1,0 +1,21 @@
+//! Laws of the printed lines: the contracts of these functions say them, and their bodies do nothing.
+ghost use Rattle.std.specs.Prelude.{◌≡◌, All, List};
+ghost use Rattle.std.specs.List.{flat_map};
+ghost use Rattle.vp_words.specs.declared.record.Reply.{Reply};
+ghost use Rattle.vp_stream.specs.Printing.{IsOneLine, IsReply, reply_line};
+
+/// No two replies that can be given have one line.
+pub fn line_tells_reply()
+    ensures { (a b : Reply) → IsReply a → IsReply b → reply_line a ≡ reply_line b → a ≡ b }
+{}
+
+/// The line of a reply that can be given is one line: its last byte is its one LF.
+pub fn reply_is_one_line()
+    ensures { (reply : Reply) → IsReply reply → IsOneLine (reply_line reply) }
+{}
+
+/// The text of replies, line after line, tells how many there are and each of them.
+pub fn text_tells_replies()
+    ensures { (replies others : List Reply) → All IsReply replies → All IsReply others →
+        flat_map reply_line replies ≡ flat_map reply_line others → replies ≡ others }
+{}
