@@ -1,0 +1,67 @@
+//! The lines that say why a file is no image.
+ghost use Rattle.std.specs.Prelude.{◌≡◌, ◌≢◌, ◌++◌, IfOk, OnOk};
+ghost use Rattle.vp_image.specs.declared.image.ImageErr.TheVariants.{Memory};
+ghost use Rattle.vp_cmd.specs.Outcome.{bad_image, check_text, image_text, place_text};
+
+use crate::due::Printed;
+use crate::status::Status;
+use std::alloc::{AllocError, Global};
+use vp_image::ImageErr;
+use vp_isa::CheckErr;
+
+/// Writes words and the number of a place.
+fn push_place(alloc: Global, words: &str, at: u32, text: &mut Vec<u8>) -> Result<(), AllocError>
+    ensures { OnOk result (text.new.items ≡ text.old.items ++ place_text words.now at) }
+{
+    text.extend_from_slice(words.as_bytes())?;
+    text.extend_from_slice(at.to_string(alloc)?.as_bytes())
+}
+
+/// Writes which rule a code breaks.
+fn push_check(alloc: Global, why: CheckErr, text: &mut Vec<u8>) -> Result<(), AllocError>
+    ensures { OnOk result (text.new.items ≡ text.old.items ++ check_text why) }
+{
+    match why {
+        CheckErr::Size => text.extend_from_slice(b"size"),
+        CheckErr::Shape { at } => push_place(alloc, "shape ", at, text),
+        CheckErr::Cell { at } => push_place(alloc, "cell ", at, text),
+        CheckErr::Target { at } => push_place(alloc, "target ", at, text),
+        CheckErr::Back { at } => push_place(alloc, "back ", at, text),
+        CheckErr::Fall => text.extend_from_slice(b"fall"),
+    }
+}
+
+/// Writes why bytes are no image. Want of memory has no words: it is passed on.
+fn push_image(alloc: Global, why: ImageErr, text: &mut Vec<u8>) -> Result<(), AllocError>
+    ensures text { OnOk result (text.new.items ≡ text.old.items ++ image_text why) }
+    ensures memory { OnOk result (why ≢ Memory) }
+{
+    match why {
+        ImageErr::Magic => text.extend_from_slice(b"magic"),
+        ImageErr::Version { n } => push_place(alloc, "version ", u32::from(n), text),
+        ImageErr::Length => text.extend_from_slice(b"length"),
+        ImageErr::Digest => text.extend_from_slice(b"digest"),
+        ImageErr::Instr { at } => push_place(alloc, "instr ", at, text),
+        ImageErr::Check(why) => {
+            text.extend_from_slice(b"check ")?;
+            push_check(alloc, why, text)
+        }
+        ImageErr::Memory => Err(AllocError),
+    }
+}
+
+/// What is due for bytes that are no image.
+pub(crate) fn bad_image(alloc: Global, why: ImageErr) -> Result<Printed, AllocError>
+    ensures due { IfOk result (λ due. record { status = due.status; text = due.text.items } ≡ bad_image (image_text why)) }
+    ensures printed { IfOk result (λ due. due.status ≡ Status.BadImage) }
+    ensures memory { OnOk result (why ≢ Memory) }
+{
+    let mut text = Vec::new(alloc);
+    text.extend_from_slice(b"bad image ")?;
+    push_image(alloc, why, &mut text)?;
+    text.push(b'\n')?;
+    Ok(Printed {
+        status: Status::BadImage,
+        text,
+    })
+}
