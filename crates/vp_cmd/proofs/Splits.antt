@@ -1,13 +1,17 @@
 -- The first line of the bytes, and walks that begin with it.
-use Rattle.std.proofs.Common.{◌≡◌, ℕ, ◌+◌, ◌==◌, true, false, List, [], ◌∷◌, ◌++◌, All, length, take, drop, nat_lt, Option, None, Some, Ok, Err, ap, sym, ◌∙◌, append_assoc}
+use Rattle.std.proofs.Common.{◌≡◌, ℕ, ◌+◌, ◌==◌, Bool, true, false, cond, List, [], ◌∷◌, ◌++◌, All, length, take, drop, nat_lt, Option, None, Some, Ok, Err, refl, ap, sym, ◌∙◌, append_assoc}
 use Rattle.std.specs.Prelude.{is_some}
 use Rattle.std.specs.List.{position, position_or_len}
 use Rattle.std.proofs.lemmas.Bool.{ltb-true}
 use Rattle.std.proofs.lemmas.List.Splits.{slice_split_none, slice_split_first}
 use Rattle.vp_stream.specs.declared.verdict.Verdict.{Verdict}
 use Rattle.vp_stream.specs.Run.{Answerer, Standing, Walked, line_answer, lines_of, then_on, unless_ended, walk}
-use Rattle.vp_stream.proofs.Fields.{chosen}
 use Rattle.vp_stream.proofs.Growth.{some_line}
+
+-- where a test chose an option
+chosen : (b : Bool) (n at : ℕ) → cond b (Some n) None ≡ Some at → (b ≡ true) × (n ≡ at)
+chosen true n at h = (refl, cc)
+chosen false n at h = absurd cc
 
 pub lines_none : (bytes : List ℕ) → All (λ b. (b == 10) ≡ false) bytes → lines_of bytes ≡ bytes ∷ []
 lines_none bytes h = slice_split_none (λ b. b == 10) bytes h

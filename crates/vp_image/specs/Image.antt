@@ -1,5 +1,5 @@
 -- The bytes of an image, and what reading bytes as an image gives.
-use Rattle.std.specs.Prelude.{ℕ, zero, suc, ◌+◌, ◌-◌, ◌*◌, ◌≡◌, ◌==◌, ◌&&◌, ◌||◌, ◌++◌, nat_lt, nat_le, not, Bool, List, [], ◌∷◌, length, take, drop, slice_index, Option, None, Some, Result, Ok, Err, if◌then◌else◌, codes}
+use Rattle.std.specs.Prelude.{ℕ, zero, suc, ◌+◌, ◌-◌, ◌*◌, ◌≡◌, ◌==◌, ◌&&◌, ◌||◌, ◌++◌, nat_lt, nat_le, not, Bool, false, List, [], ◌∷◌, length, take, drop, slice_index, Option, None, Some, Result, Ok, Err, if◌then◌else◌, codes}
 use Rattle.std.specs.List.{flat_map, All}
 use Rattle.std.specs.Int.{w16, w32, to_be_bytes}
 use Rattle.std.specs.Str.{bytes_eq}
@@ -81,6 +81,13 @@ abbrev pub code_read : List ℕ → Result (List Instr) ImageErr → Result (Cod
 code_read bytes (Err e) = Err e
 code_read bytes (Ok instrs) = let code = code_of bytes instrs in unless_refused code (package_digest bytes) (refusal code)
 
+-- the header and the last digest are those of an image: what follows is read
+pub record IsFramed (bytes : List ℕ) : Type 0 where
+  pub magic : take 4 bytes ≡ codes "VPHY"
+  pub version : other_version bytes ≡ false
+  pub long : other_length bytes ≡ false
+  pub digest : other_digest bytes ≡ false
+
 -- the checked code and the package digest of an image, or the first refusal
 unfoldable pub image_read : List ℕ → Result (Code × List ℕ) ImageErr
 image_read bytes =
@@ -90,7 +97,7 @@ image_read bytes =
     else if other_digest bytes then Err Digest
     else code_read bytes (instrs_read (count_of bytes) 0 (drop 19 bytes))
 
--- each instruction has a place for its cells, its target and its word
+-- the cells, the target and the word of each instruction have a place in its 12 bytes
 abbrev pub AreInstrs : List Instr → Type 0
 AreInstrs instrs = All IsInstr instrs
 

@@ -1,11 +1,13 @@
 //! Reading an image.
-ghost use Rattle.std.specs.Prelude.{◌≡◌, ◌+◌, ◌*◌, ◌≤◌, List, ℕ, length, drop, None, Ok, IfOk};
+ghost use Rattle.std.specs.Prelude.{◌≡◌, ◌+◌, ◌*◌, ◌≤◌, List, ℕ, length, drop, None, Ok, IfOk, IsErrOf};
 ghost use Rattle.vp_isa.specs.declared.code.Code.{Code};
 ghost use Rattle.vp_isa.specs.Reading.{short_at, long_at};
 ghost use Rattle.vp_isa.specs.Valid.{refusal};
-ghost use Rattle.vp_image.specs.Image.{image, image_read, other_version, other_length, other_digest, package_digest, instrs_read, code_of, code_read, count_of, image_length, AreInstrs, Gives};
+ghost use Rattle.vp_image.specs.declared.image.ImageErr.TheVariants.{Memory};
+ghost use Rattle.vp_image.specs.Image.{image, image_read, other_version, other_length, other_digest, package_digest, instrs_read, code_of, code_read, count_of, image_length, IsFramed, AreInstrs, Gives};
 
 use crate::image::ImageErr;
+use crate::laws::written_is_read;
 use sha2::{Digest, Sha256};
 use std::alloc::Global;
 use vp_isa::{Checked, Code, Instrs, decode};
@@ -111,7 +113,8 @@ fn read_code(alloc: Global, bytes: &[u8]) -> Result<(Checked, [u8; 32]), ImageEr
 /// The checked code and the digest of the package, where the bytes are an image.
 #[tactic(auto, unfolding(crate::specs::Image::image_read))]
 fn read_whole(alloc: Global, bytes: &[u8]) -> Result<(Checked, [u8; 32]), ImageErr>
-    ensures { Gives result (image_read bytes.now) }
+    ensures exact { Gives result (image_read bytes.now) }
+    ensures memory { IsErrOf result Memory → IsFramed bytes.now }
 {
     if !bytes.starts_with(b"VPHY") {
         return Err(ImageErr::Magic);
@@ -136,10 +139,13 @@ fn read_whole(alloc: Global, bytes: &[u8]) -> Result<(Checked, [u8; 32]), ImageE
 pub fn read_image(alloc: Global, bytes: &[u8]) -> Result<(Checked, [u8; 32]), ImageErr>
     // The answer is the definition's.
     ensures exact { Gives result (image_read bytes.now) }
+    // Memory can run out only where the header and the last digest are those of an image.
+    ensures memory { IsErrOf result Memory → IsFramed bytes.now }
     // What is read is an image, of code that keeps the rules.
     ensures sound { IfOk result (λ read. (bytes.now ≡ image read.0 read.1) × (refusal read.0 ≡ None)) }
     // Each image of such code is read.
     ensures complete { (code : Code) (digest : List ℕ) → AreInstrs code.instrs → length digest ≡ 32 → refusal code ≡ None → bytes.now ≡ image code digest → Gives result (Ok (code, digest)) }
 {
+    written_is_read();
     read_whole(alloc, bytes)
 }

@@ -1,10 +1,11 @@
 //! Writing an image.
-ghost use Rattle.std.specs.Prelude.{◌≡◌, ◌++◌, IfOk, OnOk};
+ghost use Rattle.std.specs.Prelude.{◌≡◌, ◌++◌, Ok, IfOk, OnOk};
 ghost use Rattle.std.specs.List.{flat_map};
 ghost use Rattle.vp_isa.specs.Encoding.{encoded};
 ghost use Rattle.vp_isa.specs.Valid.{IsValid};
-ghost use Rattle.vp_image.specs.Image.{image, body};
+ghost use Rattle.vp_image.specs.Image.{image, image_read, body, AreInstrs};
 
+use crate::laws::written_is_read;
 use sha2::{Digest, Sha256};
 use std::alloc::{AllocError, Global};
 use vp_isa::{Checked, Code, Instr, encode};
@@ -12,7 +13,8 @@ use vp_words::Counts;
 
 /// Writes the instructions, 12 bytes each.
 fn push_instrs(out: &mut Vec<u8>, instrs: &[Instr]) -> Result<(), AllocError>
-    ensures { OnOk result (out.new.items ≡ out.old.items ++ flat_map encoded instrs.now) }
+    ensures bytes { OnOk result (out.new.items ≡ out.old.items ++ flat_map encoded instrs.now) }
+    ensures fit { OnOk result (AreInstrs instrs.now) }
 {
     for instr in instrs {
         out.extend_from_slice(&encode(instr))?;
@@ -23,7 +25,8 @@ fn push_instrs(out: &mut Vec<u8>, instrs: &[Instr]) -> Result<(), AllocError>
 /// The bytes before the last digest.
 fn write_body(alloc: Global, code: &Code, package_digest: &[u8; 32]) -> Result<Vec<u8>, AllocError>
     requires { IsValid code.now }
-    ensures { IfOk result (λ bytes. bytes.items ≡ body code.now package_digest.now) }
+    ensures bytes { IfOk result (λ bytes. bytes.items ≡ body code.now package_digest.now) }
+    ensures fit { OnOk result (AreInstrs code.now.instrs) }
 {
     let Counts {
         params,
@@ -49,8 +52,11 @@ pub fn write_image(
     code: &Checked,
     package_digest: &[u8; 32],
 ) -> Result<Vec<u8>, AllocError>
-    ensures { IfOk result (λ bytes. bytes.items ≡ image code.now package_digest.now) }
+    ensures bytes { IfOk result (λ bytes. bytes.items ≡ image code.now package_digest.now) }
+    // What is written is read back as that code and digest.
+    ensures read_back { IfOk result (λ bytes. image_read bytes.items ≡ Ok (code.now, package_digest.now)) }
 {
+    written_is_read();
     let mut bytes = write_body(alloc, code.code(), package_digest)?;
     let digest = Sha256::digest(bytes.as_slice());
     bytes.extend_from_slice(&digest)?;

@@ -1,15 +1,17 @@
 -- The bytes of an instruction are read back.
 use Rattle.std.proofs.Common.{◌≡◌, ◌<◌, ◌^◌, ℕ, true, false, cond, Some, None, refl, sym, ap, ◌∙◌, arith}
-use Rattle.std.specs.Prelude.{ℤ, int_lt, FitsSigned}
+use Rattle.std.specs.Prelude.{ℤ, int_lt, FitsSigned, option_and_then}
 use Rattle.std.specs.Option.{option_map}
 use Rattle.std.specs.Int.{w16, w32, w64, from_be_bytes, to_be_bytes, cast_signed, cast_unsigned}
 use Rattle.std.proofs.lemmas.Nat.{from_be_bytes-to_be_bytes_2, from_be_bytes-to_be_bytes_4, from_be_bytes-to_be_bytes_8}
 use Rattle.std.proofs.lemmas.Int.{ints, to_z-of_z}
+use Rattle.std.proofs.lemmas.Slice.Eq.{bytes_eq-Decides}
 use Rattle.vp_words.specs.Number.{IsWord, minus_inf}
 use Rattle.vp_words.specs.declared.record.Kind.TheVariants as kind
 use Rattle.vp_isa.specs.declared.instr.Mon.TheVariants as mon
 use Rattle.vp_isa.specs.declared.instr.Instr.{Instr}
 use Rattle.vp_isa.specs.declared.instr.Instr.TheVariants.{Const, Copy, Neg, Min, Max, AddD, AddU, MulD, MulU, Jmp, Jge, Jgt, Jeq, Take, Act, Halt}
+use Rattle.vp_isa.specs.Decoding.{own_bytes, decoded}
 use Rattle.vp_isa.specs.Encoding.{IsInstr, encoded}
 use Rattle.vp_isa.specs.Reading.{word_of, instr_of}
 
@@ -62,3 +64,9 @@ pub same_from_bytes : (i j : Instr) → IsInstr i → IsInstr j → encoded i �
 same_from_bytes i j f g e =
     let both : Some i ≡ Some j = sym (read_back i f) ∙ ap instr_of e ∙ read_back j g in
     cc
+
+-- the bytes of an instruction are decoded as it
+pub decoded_back : (i : Instr) → IsInstr i → decoded (encoded i) ≡ Some i
+decoded_back i h =
+    ap (option_and_then (own_bytes (encoded i))) (read_back i h)
+    ∙ ap (λ b. cond b (Some i) None) ((bytes_eq-Decides (encoded i) (encoded i)).1 refl)

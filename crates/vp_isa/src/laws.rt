@@ -1,19 +1,21 @@
 //! Laws of the machine: the contracts of these functions say them. Nothing that rests on them counts
 //! steps.
-ghost use Rattle.std.specs.Prelude.{◌≡◌, ◌+◌, ◌≤◌, ◌++◌, ◌&&◌, ◌↔◌, ℕ, ℤ, List, [], length, true, false};
+ghost use Rattle.std.specs.Prelude.{◌≡◌, ◌+◌, ◌≤◌, ◌++◌, ◌&&◌, ◌↔◌, ℕ, ℤ, List, [], length, true, false, Some};
 ghost use Rattle.vp_isa.specs.declared.instr.Instr.{Instr};
 ghost use Rattle.vp_isa.specs.declared.code.Code.{Code};
 ghost use Rattle.vp_words.specs.declared.record.Due.TheVariants.{Ended};
+ghost use Rattle.vp_isa.specs.Decoding.{decoded};
 ghost use Rattle.vp_isa.specs.Encoding.{IsInstr, encoded};
 ghost use Rattle.vp_isa.specs.Valid.{IsValid};
 ghost use Rattle.vp_isa.specs.Machine.{State, step, stopped, run, answer, replied, fresh, due_of, AreDue, IsStanding};
 ghost use Rattle.vp_isa.specs.Block.{are_plain, after, HasAt};
 ghost use Rattle.vp_isa.specs.Runs.{Comes, IsWithin};
 
-/// No two instructions have the same bytes, and each has 12.
+/// No two instructions have the same bytes, each has 12, and they are read back as that instruction.
 pub fn bytes_are_one_instruction()
     ensures same { (i j : Instr) → IsInstr i → IsInstr j → encoded i ≡ encoded j → i ≡ j }
     ensures long { (i : Instr) → length (encoded i) ≡ 12 }
+    ensures read { (i : Instr) → IsInstr i → decoded (encoded i) ≡ Some i }
 {}
 
 /// Where nothing is executed nothing changes, one step is a run, and a run after a run is a run.

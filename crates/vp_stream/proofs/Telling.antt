@@ -13,8 +13,7 @@ use Rattle.vp_words.specs.declared.record.Why.{Why}
 use Rattle.vp_words.specs.declared.record.Why.TheVariants as why
 use Rattle.vp_words.specs.Number.{IsWord}
 use Rattle.vp_words.specs.Record.{padded}
-use Rattle.vp_words.specs.Text.{IsVisible, word_text}
-use Rattle.vp_words.proofs.Written.{text_tells, text_visible}
+use Rattle.vp_words.specs.Text.{IsVisible, TellsWords, word_text}
 use Rattle.vp_stream.specs.Printing.{HasNumber, IsReply, reply_line, source_text, spaced_word, truth_text, violation_line}
 
 -- where texts are the same, so are their bytes
@@ -43,20 +42,20 @@ after_word : (words : List ℤ) → (x : ℕ) × (s : List ℕ) × (x < 33) × (
 after_word [] = (10, [], omega arith, refl)
 after_word (word ∷ words) = (32, (word_text word ++ flat_map spaced_word words) ++ 10 ∷ [], omega arith, refl)
 
-words_told : (ws vs : List ℤ) → All IsWord ws → All IsWord vs → flat_map spaced_word ws ++ 10 ∷ [] ≡ flat_map spaced_word vs ++ 10 ∷ [] → ws ≡ vs
-words_told [] [] all_w all_v e = refl
-words_told [] (v ∷ vs) all_w all_v e = absurd (omega (arith, bytes_told 0 10 32 _ _ e refl refl))
-words_told (w ∷ ws) [] all_w all_v e = absurd (omega (arith, bytes_told 0 32 10 _ _ e refl refl))
-words_told (w ∷ ws) (v ∷ vs) all_w all_v e =
+words_told : (t : TellsWords) (ws vs : List ℤ) → All IsWord ws → All IsWord vs → flat_map spaced_word ws ++ 10 ∷ [] ≡ flat_map spaced_word vs ++ 10 ∷ [] → ws ≡ vs
+words_told t [] [] all_w all_v e = refl
+words_told t [] (v ∷ vs) all_w all_v e = absurd (omega (arith, bytes_told 0 10 32 _ _ e refl refl))
+words_told t (w ∷ ws) [] all_w all_v e = absurd (omega (arith, bytes_told 0 32 10 _ _ e refl refl))
+words_told t (w ∷ ws) (v ∷ vs) all_w all_v e =
     let is_w = All-head IsWord w ws all_w in
     let is_v = All-head IsWord v vs all_v in
     let n = after_word ws in
     let m = after_word vs in
     let left = append_assoc (word_text w) (flat_map spaced_word ws) (10 ∷ []) ∙ ap (λ l. word_text w ++ l) n.3 in
     let right = append_assoc (word_text v) (flat_map spaced_word vs) (10 ∷ []) ∙ ap (λ l. word_text v ++ l) m.3 in
-    let p = parts IsVisible (word_text w) (word_text v) n.1 m.1 n.0 m.0 (text_visible w is_w) (text_visible v is_v) (below_visible n.0 n.2) (below_visible m.0 m.2) (sym left ∙ ap (λ l. drop 1 l) e ∙ right) in
-    let first = text_tells w v is_w is_v p.0 in
-    let rest = words_told ws vs (All-tail IsWord w ws all_w) (All-tail IsWord v vs all_v) (n.3 ∙ p.1 ∙ sym m.3) in
+    let p = parts IsVisible (word_text w) (word_text v) n.1 m.1 n.0 m.0 (t.visible w is_w) (t.visible v is_v) (below_visible n.0 n.2) (below_visible m.0 m.2) (sym left ∙ ap (λ l. drop 1 l) e ∙ right) in
+    let first = t.told w v is_w is_v p.0 in
+    let rest = words_told t ws vs (All-tail IsWord w ws all_w) (All-tail IsWord v vs all_v) (n.3 ∙ p.1 ∙ sym m.3) in
     rw (first, rest) refl
 
 source_told : (f g : Bool) (s t : List ℕ) → source_text f ++ s ≡ source_text g ++ t → (f ≡ g) × (s ≡ t)
@@ -72,10 +71,10 @@ act_len words len le pad =
     let whole : length words ≡ 16 = ap (λ l. length l) pad ∙ length-append (take len words) (replicate (16 - length (take len words)) (pos 0)) ∙ omega (arith, length-replicate (16 - length (take len words)) (pos 0)) in
     omega (arith, length-take len words)
 
-act_told : (ws vs : List ℤ) (n m : ℕ) (f g : Bool) → IsReply (reply.Act ws n f) → IsReply (reply.Act vs m g) → reply_line (reply.Act ws n f) ≡ reply_line (reply.Act vs m g) → reply.Act ws n f ≡ reply.Act vs m g
-act_told ws vs n m f g a b e =
+act_told : (t : TellsWords) (ws vs : List ℤ) (n m : ℕ) (f g : Bool) → IsReply (reply.Act ws n f) → IsReply (reply.Act vs m g) → reply_line (reply.Act ws n f) ≡ reply_line (reply.Act vs m g) → reply.Act ws n f ≡ reply.Act vs m g
+act_told t ws vs n m f g a b e =
     let source = source_told f g _ _ (sym (append_assoc (source_text f) (flat_map spaced_word (take n ws)) (10 ∷ [])) ∙ e ∙ append_assoc (source_text g) (flat_map spaced_word (take m vs)) (10 ∷ [])) in
-    let front = words_told (take n ws) (take m vs) a.1 b.1 source.1 in
+    let front = words_told t (take n ws) (take m vs) a.1 b.1 source.1 in
     let words : ws ≡ vs = a.2 ∙ ap (λ l. padded 16 l) front ∙ sym b.2 in
     let len : n ≡ m = sym (act_len ws n a.0 a.2) ∙ ap (λ l. length l) front ∙ act_len vs m b.0 b.2 in
     cc
@@ -156,14 +155,14 @@ has_first_letter (reply.Violation w) = violation_letter w
 same_letter : (a b : Reply) → reply_line a ≡ reply_line b → first_letter a ≡ first_letter b
 same_letter a b e = bytes_told 0 _ _ _ _ e (has_first_letter a) (has_first_letter b)
 
-pub reply_told : (a b : Reply) → IsReply a → IsReply b → reply_line a ≡ reply_line b → a ≡ b
+pub reply_told : (t : TellsWords) (a b : Reply) → IsReply a → IsReply b → reply_line a ≡ reply_line b → a ≡ b
 unfolding first_letter
-reply_told reply.Ok reply.Ok a b e = refl
-reply_told reply.Ok (reply.Act vs m g) a b e = absurd (omega (arith, same_letter reply.Ok (reply.Act vs m g) e))
-reply_told reply.Ok (reply.Violation w) a b e = absurd (omega (arith, same_letter reply.Ok (reply.Violation w) e))
-reply_told (reply.Act ws n f) reply.Ok a b e = absurd (omega (arith, same_letter (reply.Act ws n f) reply.Ok e))
-reply_told (reply.Act ws n f) (reply.Act vs m g) a b e = act_told ws vs n m f g a b e
-reply_told (reply.Act ws n f) (reply.Violation w) a b e = absurd (omega (arith, same_letter (reply.Act ws n f) (reply.Violation w) e))
-reply_told (reply.Violation v) reply.Ok a b e = absurd (omega (arith, same_letter (reply.Violation v) reply.Ok e))
-reply_told (reply.Violation v) (reply.Act vs m g) a b e = absurd (omega (arith, same_letter (reply.Violation v) (reply.Act vs m g) e))
-reply_told (reply.Violation v) (reply.Violation w) a b e = ap reply.Violation (violation_told v w a b e)
+reply_told t reply.Ok reply.Ok a b e = refl
+reply_told t reply.Ok (reply.Act vs m g) a b e = absurd (omega (arith, same_letter reply.Ok (reply.Act vs m g) e))
+reply_told t reply.Ok (reply.Violation w) a b e = absurd (omega (arith, same_letter reply.Ok (reply.Violation w) e))
+reply_told t (reply.Act ws n f) reply.Ok a b e = absurd (omega (arith, same_letter (reply.Act ws n f) reply.Ok e))
+reply_told t (reply.Act ws n f) (reply.Act vs m g) a b e = act_told t ws vs n m f g a b e
+reply_told t (reply.Act ws n f) (reply.Violation w) a b e = absurd (omega (arith, same_letter (reply.Act ws n f) (reply.Violation w) e))
+reply_told t (reply.Violation v) reply.Ok a b e = absurd (omega (arith, same_letter (reply.Violation v) reply.Ok e))
+reply_told t (reply.Violation v) (reply.Act vs m g) a b e = absurd (omega (arith, same_letter (reply.Violation v) (reply.Act vs m g) e))
+reply_told t (reply.Violation v) (reply.Violation w) a b e = ap reply.Violation (violation_told v w a b e)

@@ -1,12 +1,12 @@
 -- The spelling of a word in text.
-use Rattle.std.specs.Prelude.{◌≡◌, ℕ, ◌<◌, ◌≤◌, ◌⊎◌, ◌&&◌, List, length, drop, codes, ℤ, pos, neg_ℤ, Result, Ok, Err, unsigned_abs, Bool, nat_lt, if◌then◌else◌, bytes_eq}
+use Rattle.std.specs.Prelude.{◌≡◌, ℕ, ◌<◌, ◌≤◌, ◌⊎◌, ◌&&◌, List, All, length, drop, codes, ℤ, pos, neg_ℤ, Result, Ok, Err, unsigned_abs, Bool, nat_lt, if◌then◌else◌, bytes_eq}
 use Rattle.std.specs.Fmt.{signed_decimal}
 use Rattle.std.specs.Ordering.{int_eq}
 use Rattle.std.specs.Str.{all_ascii_digits}
 use Rattle.std.specs.Str.Parse.{IsNumeral, digits_value, starts_with_minus}
 use Rattle.vp_words.specs.declared.text.WordErr.{WordErr}
 use Rattle.vp_words.specs.declared.text.WordErr.TheVariants.{Spelling, Range}
-use Rattle.vp_words.specs.Number.{inf, minus_inf, is_finite}
+use Rattle.vp_words.specs.Number.{IsWord, inf, minus_inf, is_finite}
 
 -- a text without its leading `-`, if it has one
 abbrev pub unsigned_part : List ℕ → List ℕ
@@ -39,6 +39,11 @@ word_text z =
 -- a visible ASCII character: no space, tab, CR or LF
 abbrev pub IsVisible : ℕ → Type 0
 IsVisible byte = (33 ≤ byte) × (byte ≤ 126)
+
+-- what texts say of words: each text is one word's, and has visible characters alone
+pub record TellsWords : Type 0 where
+  pub told : (y z : ℤ) → IsWord y → IsWord z → word_text y ≡ word_text z → y ≡ z
+  pub visible : (z : ℤ) → IsWord z → All IsVisible (word_text z)
 
 -- the greatest finite number, as a size
 abbrev pub greatest_size : ℕ

@@ -3,7 +3,7 @@ ghost use Rattle.std.specs.Prelude.{◌≡◌, ◌≤◌, ℕ, ◌*◌, ℤ, pos
 ghost use Rattle.std.specs.Int.{int_min, int_max};
 ghost use Rattle.vp_words.specs.Ends.{encloses, IsLowEnd, IsHighEnd, IsBetween, IsFractionLowEnd, IsFractionHighEnd, IsFractionBetween};
 ghost use Rattle.vp_words.specs.Number.{IsWord, IsFinite, lower_sum, upper_sum, lower_product, upper_product, least_product, greatest_product};
-ghost use Rattle.vp_words.specs.Text.{spelled, word_text, IsVisible};
+ghost use Rattle.vp_words.specs.Text.{spelled, word_text, IsVisible, TellsWords};
 
 use crate::Word;
 
@@ -145,4 +145,9 @@ pub fn text_tells_word(a: Word, b: Word)
 /// What a text spells is a word.
 pub fn spelled_is_word()
     ensures { (text : List ℕ) (z : ℤ) → spelled text ≡ Ok z → IsWord z }
+{}
+
+/// What the texts of words tell, of all words at once.
+pub fn texts_of_words()
+    ensures { TellsWords }
 {}
