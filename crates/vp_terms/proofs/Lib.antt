@@ -1,0 +1,12 @@
+pub mod Evaluating
+pub mod Gaps
+pub mod Lowest
+pub mod Orders
+pub mod RationalLaws
+pub mod Reading
+pub mod Reduced
+pub mod Results
+pub mod Sizes
+pub mod Tens
+pub mod Tokens
+pub mod Unique

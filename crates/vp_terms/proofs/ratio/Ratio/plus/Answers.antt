@@ -1,0 +1,42 @@
+use Rattle.std.proofs.Common.{◌∙◌}
+use Rattle.std.proofs.lemmas.Int.{to_z-of_z}
+use Rattle.std.specs.Prelude.{FitsSigned}
+use Rattle.std.specs.Int.{w128}
+use Rattle.vp_terms.specs.Rational.{sum}
+use Rattle.vp_terms.specs.Meaning.{rational}
+use Rattle.vp_terms.proofs.Sizes.{num_fits, den_fits, product_fits, product_positive}
+use Rattle.vp_terms.proofs.Results.{result_of, sum_num, product_den}
+use Rattle.vp_terms.proofs.ratio.Ratio.plus.Goals as goal
+
+pub reduced-requires : goal.reduced-requires
+reduced-requires c =
+    let self_num = num_fits c.args.self in
+    let self_den = den_fits c.args.self in
+    let other_num = num_fits c.args.other in
+    let other_den = den_fits c.args.other in
+    let den_is = simp to_z-of_z at c.product-den.ensures.value in
+    let den_small = product_fits c.args.self.den c.args.other.den c.args.self.lowest.den_small c.args.other.lowest.den_small in
+    rw den_is (simp to_z-of_z (product_positive c.args.self.den c.args.other.den c.args.self.lowest.positive c.args.other.lowest.positive))
+
+pub returns : goal.returns
+returns c =
+    let self_num = num_fits c.args.self in
+    let self_den = den_fits c.args.self in
+    let other_num = num_fits c.args.other in
+    let other_den = den_fits c.args.other in
+    let left = simp to_z-of_z at c.product-left.ensures.value in
+    let right = simp to_z-of_z at c.product-right.ensures.value in
+    let den = simp to_z-of_z at c.product-den.ensures.value in
+    let left_fits : FitsSigned w128 c.product-left.result = record { sfits = c.product-left.type_inv } in
+    let right_fits : FitsSigned w128 c.product-right.result = record { sfits = c.product-right.type_inv } in
+    let den_fits_too : FitsSigned w128 c.product-den.result = record { sfits = c.product-den.type_inv } in
+    let num_fits_too : FitsSigned w128 c.sum.result = record { sfits = c.sum.type_inv } in
+    let num = simp to_z-of_z at c.sum.ensures in
+    result_of
+    _
+    _
+    (sum (rational c.args.self) (rational c.args.other))
+    c.reduced.result
+    (to_z-of_z w128 c.sum.result num_fits_too ∙ sum_num c.args.self c.args.other _ _ _ left right num)
+    (to_z-of_z w128 c.product-den.result den_fits_too ∙ product_den c.args.self c.args.other _ den)
+    c.reduced.ensures.exact

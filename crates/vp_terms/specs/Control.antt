@@ -1,0 +1,44 @@
+-- Which control values a program leads to, and the runs of a model.
+use Rattle.std.specs.Prelude.{ℕ, ◌≢◌, ◌⊎◌, IsTrue, pos}
+use Rattle.vp_terms.specs.Rational.{Rational, whole, Equals}
+use Rattle.vp_terms.specs.Meaning.{Assignment, value, holds}
+use Rattle.vp_terms.specs.declared.expr.Var.TheVariants.{Param, State, Control, NextState, NextControl, Tau}
+use Rattle.vp_terms.specs.declared.prog.Prog.{Prog}
+use Rattle.vp_terms.specs.declared.prog.Prog.TheVariants.{Skip, Assign, Any, Test, Choice', Seq', If'}
+
+-- a rational for each number of a variable of one kind
+abbrev pub Values : Type 0
+Values = ℕ → Rational
+
+-- the assignment of parameters p, states x and controls u; other variables are 0
+abbrev pub assigned : Values → Values → Values → Assignment
+assigned p x u (Param i) = p i
+assigned p x u (State i) = x i
+assigned p x u (Control i) = u i
+assigned p x u (NextState i) = whole (pos 0)
+assigned p x u (NextControl i) = whole (pos 0)
+assigned p x u Tau = whole (pos 0)
+
+-- the same values
+pub record Same (u v : Values) : Type 0 where
+  pub each : (k : ℕ) → Equals (u k) (v k)
+
+-- the same values, but for that of c
+pub record SameBut (c : ℕ) (u v : Values) : Type 0 where
+  pub others : (k : ℕ) → k ≢ c → Equals (u k) (v k)
+
+-- v is u with the value q for c
+pub record Sets (c : ℕ) (q : Rational) (u v : Values) : Type 0 where
+  pub others : SameBut c u v
+  pub set : Equals (v c) q
+
+-- with parameters p and states x, the program leads from controls u to controls v
+abbrev pub Ctrl : Prog → Values → Values → Values → Values → Type 0
+Ctrl Skip p x u v = Same u v
+Ctrl (Assign c e) p x u v = Sets c (value e (assigned p x u)) u v
+Ctrl (Any c) p x u v = SameBut c u v
+Ctrl (Test f) p x u v = Same u v × IsTrue (holds f (assigned p x u))
+Ctrl (Choice' l a r b) p x u v = Ctrl a p x u v ⊎ Ctrl b p x u v
+Ctrl (Seq' l a r b) p x u v = (w : Values) × Ctrl a p x u w × Ctrl b p x w v
+Ctrl (If' f l a r b) p x u v =
+    (IsTrue (holds f (assigned p x u)) × Ctrl a p x u v) ⊎ ((¬ IsTrue (holds f (assigned p x u))) × Ctrl b p x u v)

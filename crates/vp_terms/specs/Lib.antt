@@ -1,0 +1,11 @@
+pub mod Control
+pub mod Evaluation
+pub mod Lowest
+pub mod Meaning
+pub mod Number
+pub mod Order
+pub mod Places
+pub mod Rational
+pub mod Ratios
+pub mod Tree
+pub mod WellFormed
