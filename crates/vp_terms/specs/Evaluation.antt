@@ -6,14 +6,19 @@ use Rattle.vp_terms.specs.Places.{place}
 use Rattle.vp_terms.specs.Meaning.{Assignment, rational, value}
 use Rattle.vp_terms.specs.declared.ratio.Ratio.{Ratio}
 use Rattle.vp_terms.specs.declared.expr.Places.{Places}
+use Rattle.vp_terms.specs.declared.expr.Var.{Var}
 use Rattle.vp_terms.specs.declared.expr.Expr.{Expr}
 use Rattle.vp_terms.specs.declared.expr.Expr.TheVariants.{Num, Var as Variable, Add', Sub', Mul', Pow'}
 use Rattle.vp_terms.specs.declared.formula.Formula.{Formula}
 use Rattle.vp_terms.specs.declared.formula.Formula.TheVariants.{True, Cmp as Compare, And', Or', Not'}
 
--- each variable has the value at its place; 0 stands for a value that is missing
+-- the value at a place of a list; 0 stands for a value that is missing
+abbrev pub value_in : List Ratio → ℕ → Rational
+value_in values k = option_map_or rational (slice_get values k) (whole (pos 0))
+
+-- each variable has the value at its place
 abbrev pub at : Places → List Ratio → Assignment
-at places values v = option_map_or rational (slice_get values (place places v)) (whole (pos 0))
+at places values v = value_in values (place places v)
 
 -- some fraction in lowest terms, with parts below 2^62, has this value
 abbrev pub IsSmall : Rational → Type 0
@@ -27,19 +32,31 @@ IsResult q o = MatchOption o (¬ IsSmall q) (λ r. Equals (rational r) q)
 abbrev pub PowersAreSmall : Rational → ℕ → Type 0
 PowersAreSmall q n = (k : ℕ) → k ≤ n → IsSmall (power q k)
 
+-- the values of all parts are small, and this holds of each variable
+abbrev pub PartsAreSmall : (Var → Type 0) → Assignment → Expr → Type 0
+PartsAreSmall known a (Num r) = ⊤
+PartsAreSmall known a (Variable v) = known v
+PartsAreSmall known a (Add' l e r f) = PartsAreSmall known a e × PartsAreSmall known a f × IsSmall (sum (value e a) (value f a))
+PartsAreSmall known a (Sub' l e r f) = PartsAreSmall known a e × PartsAreSmall known a f × IsSmall (difference (value e a) (value f a))
+PartsAreSmall known a (Mul' l e r f) = PartsAreSmall known a e × PartsAreSmall known a f × IsSmall (product (value e a) (value f a))
+PartsAreSmall known a (Pow' l e n) = PartsAreSmall known a e × PowersAreSmall (value e a) n
+
+-- and so in each comparison
+abbrev pub FormulaIsSmall : (Var → Type 0) → Assignment → Formula → Type 0
+FormulaIsSmall known a True = ⊤
+FormulaIsSmall known a (Compare c e f) = PartsAreSmall known a e × PartsAreSmall known a f
+FormulaIsSmall known a (And' l f r g) = FormulaIsSmall known a f × FormulaIsSmall known a g
+FormulaIsSmall known a (Or' l f r g) = FormulaIsSmall known a f × FormulaIsSmall known a g
+FormulaIsSmall known a (Not' l f) = FormulaIsSmall known a f
+
+-- a value is there for the variable
+abbrev pub IsThere : Places → List Ratio → Var → Type 0
+IsThere p vs v = place p v < length vs
+
 -- each variable has a value, and the values of all parts are small
 abbrev pub IsSmallIn : Places → List Ratio → Expr → Type 0
-IsSmallIn p vs (Num r) = ⊤
-IsSmallIn p vs (Variable v) = place p v < length vs
-IsSmallIn p vs (Add' l e r f) = IsSmallIn p vs e × IsSmallIn p vs f × IsSmall (sum (value e (at p vs)) (value f (at p vs)))
-IsSmallIn p vs (Sub' l e r f) = IsSmallIn p vs e × IsSmallIn p vs f × IsSmall (difference (value e (at p vs)) (value f (at p vs)))
-IsSmallIn p vs (Mul' l e r f) = IsSmallIn p vs e × IsSmallIn p vs f × IsSmall (product (value e (at p vs)) (value f (at p vs)))
-IsSmallIn p vs (Pow' l e n) = IsSmallIn p vs e × PowersAreSmall (value e (at p vs)) n
+IsSmallIn p vs e = PartsAreSmall (IsThere p vs) (at p vs) e
 
 -- and so in each comparison
 abbrev pub AreSmallIn : Places → List Ratio → Formula → Type 0
-AreSmallIn p vs True = ⊤
-AreSmallIn p vs (Compare c e f) = IsSmallIn p vs e × IsSmallIn p vs f
-AreSmallIn p vs (And' l f r g) = AreSmallIn p vs f × AreSmallIn p vs g
-AreSmallIn p vs (Or' l f r g) = AreSmallIn p vs f × AreSmallIn p vs g
-AreSmallIn p vs (Not' l f) = AreSmallIn p vs f
+AreSmallIn p vs f = FormulaIsSmall (IsThere p vs) (at p vs) f

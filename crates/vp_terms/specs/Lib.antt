@@ -1,3 +1,4 @@
+pub mod Continuing
 pub mod Control
 pub mod Evaluation
 pub mod Lowest
@@ -7,5 +8,7 @@ pub mod Order
 pub mod Places
 pub mod Rational
 pub mod Ratios
+pub mod Running
 pub mod Tree
+pub mod Variables
 pub mod WellFormed

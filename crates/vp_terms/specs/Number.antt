@@ -1,5 +1,5 @@
 -- Number tokens: digits, digits `/` digits, or digits `.` digits.
-use Rattle.std.specs.Prelude.{ℕ, ◌^◌, Bool, ◌&&◌, nat_lt, ◌==◌, List, [], ◌∷◌, ◌++◌, length, drop, Option, None, Some, option_and_then, if◌then◌else◌}
+use Rattle.std.specs.Prelude.{ℕ, ◌^◌, Bool, ◌&&◌, nat_lt, ◌==◌, IsTrue, List, [], ◌∷◌, ◌++◌, length, drop, Option, None, Some, option_and_then, if◌then◌else◌}
 use Rattle.std.specs.Char.{is_ascii_digit}
 use Rattle.std.specs.List.{prefix_len, take_while}
 use Rattle.std.specs.Str.{all_ascii_digits}
@@ -48,3 +48,10 @@ number_from ds rest = option_and_then (λ f. if is_read f then Some f else None)
 -- the fraction that a number token writes, as it stands; None for any other text and for a refused number
 abbrev pub number : List ℕ → Option (ℕ × ℕ)
 number text = number_from (front_digits text) (behind_digits text)
+
+-- the text writes the fraction n / d: digits alone, two runs of digits with a `/` between, or two
+-- with a `.` between, which together write the numerator over a power of ten
+pub data Writes : List ℕ → ℕ → ℕ → Type 0 where
+  Whole : (ds : List ℕ) → IsTrue (is_whole ds) → Writes ds (digits_value 10 ds) 1
+  Quotient : (ds es : List ℕ) → IsTrue (is_whole ds) → IsTrue (is_whole es) → Writes (ds ++ 47 ∷ es) (digits_value 10 ds) (digits_value 10 es)
+  Decimal : (ds es : List ℕ) → IsTrue (is_whole ds) → IsTrue (is_whole es) → Writes (ds ++ 46 ∷ es) (digits_value 10 (ds ++ es)) (10 ^ length es)

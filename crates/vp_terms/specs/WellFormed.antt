@@ -1,5 +1,5 @@
 -- What a well formed package is.
-use Rattle.std.specs.Prelude.{◌≡◌, ◌≢◌, ℕ, ◌+◌, ◌≤◌, Bool, true, false, ◌&&◌, IsTrue, nat_lt, nat_le, ◌++◌, length, AllPairs}
+use Rattle.std.specs.Prelude.{◌≡◌, ◌≢◌, ℕ, ◌+◌, ◌<◌, ◌≤◌, slice_get, Bool, true, false, ◌&&◌, IsTrue, nat_lt, nat_le, List, ◌++◌, length, AllPairs}
 use Rattle.std.specs.List.{list_all}
 use Rattle.vp_terms.specs.Places.{place_count}
 use Rattle.vp_terms.specs.declared.expr.Places.{Places}
@@ -11,6 +11,7 @@ use Rattle.vp_terms.specs.declared.formula.Formula.{Formula}
 use Rattle.vp_terms.specs.declared.formula.Formula.TheVariants.{True, Cmp as Compare, And', Or', Not'}
 use Rattle.vp_terms.specs.declared.prog.Prog.{Prog}
 use Rattle.vp_terms.specs.declared.prog.Prog.TheVariants.{Skip, Assign, Any, Test, Choice', Seq', If'}
+use Rattle.vp_terms.specs.declared.well_formed.Kinds.{Kinds}
 use Rattle.vp_terms.specs.declared.package.Slack.{Slack}
 use Rattle.vp_terms.specs.declared.package.Plant.{Plant}
 use Rattle.vp_terms.specs.declared.package.CertTerm.{CertTerm}
@@ -22,13 +23,6 @@ use Rattle.vp_terms.specs.declared.package.Package.{Package}
 -- how many variables of each kind the names name
 abbrev pub places_of : Names → Places
 places_of n = record { params = length n.params; states = length n.states; controls = length n.controls }
-
--- which kinds of variables may stand somewhere, beside the parameters
-pub record Kinds : Type 0 where
-  pub states : Bool
-  pub controls : Bool
-  pub next : Bool
-  pub tau : Bool
 
 -- a variable of the model, of a kind that may stand there
 abbrev pub is_allowed : Kinds → Places → Var → Bool
@@ -117,9 +111,17 @@ is_good_term p (term.Eq label times) = is_good_expr in_certificate p times
 abbrev pub is_good_cert : Places → Cert → Bool
 is_good_cert p c = list_all (is_good_term p) c.terms
 
+-- all names, in the order of the numbers of their kinds
+abbrev pub all_names : Names → List (List ℕ)
+all_names n = n.params ++ n.states ++ n.controls
+
+-- the name number j is none of those before it
+abbrev pub IsNewName : List (List ℕ) → ℕ → Type 0
+IsNewName names j = (i : ℕ) → i < j → slice_get names i ≢ slice_get names j
+
 -- all names are different; there is a state and a control, and there are at most 32 places
 pub record AreGoodNames (n : Names) : Type 0 where
-  pub distinct : AllPairs (λ a b. a ≢ b) (n.params ++ n.states ++ n.controls)
+  pub distinct : AllPairs (λ a b. a ≢ b) (all_names n)
   pub some_state : 1 ≤ length n.states
   pub some_control : 1 ≤ length n.controls
   pub few : place_count (places_of n) ≤ 32

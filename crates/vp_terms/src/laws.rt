@@ -1,7 +1,19 @@
 //! Laws of rationals: the contracts of these functions say them, and their bodies do nothing.
-ghost use Rattle.std.specs.Prelude.{◌≡◌, ◌⊎◌, ℕ, ◌+◌, pos, IsTrue};
+ghost use Rattle.std.specs.Prelude.{◌≡◌, ◌⊎◌, ℕ, ◌+◌, ◌<◌, ◌≤◌, pos, IsTrue, List, Some};
 ghost use Rattle.vp_terms.specs.Rational.{Rational, Equals, whole, sum, difference, product, power};
 ghost use Rattle.vp_terms.specs.Meaning.{rational, compares};
+ghost use Rattle.vp_terms.specs.Control.{Values, Same, SameBut, Ctrl};
+ghost use Rattle.vp_terms.specs.Running.{may_change};
+ghost use Rattle.vp_terms.specs.Number.{Writes, is_read, number};
+ghost use Rattle.vp_terms.specs.Places.{place, place_count, has_variable};
+ghost use Rattle.vp_terms.specs.Variables.{has_places_below, formula_has_places_below};
+ghost use Rattle.vp_terms.specs.WellFormed.{is_good_expr, is_good_formula};
+ghost use Rattle.vp_terms.specs.declared.well_formed.Kinds.{Kinds};
+ghost use Rattle.vp_terms.specs.declared.expr.Places.{Places};
+ghost use Rattle.vp_terms.specs.declared.expr.Var.{Var};
+ghost use Rattle.vp_terms.specs.declared.expr.Expr.{Expr};
+ghost use Rattle.vp_terms.specs.declared.formula.Formula.{Formula};
+ghost use Rattle.vp_terms.specs.declared.prog.Prog.{Prog};
 ghost use Rattle.vp_terms.specs.declared.formula.Cmp.{Cmp};
 ghost use Rattle.vp_terms.specs.declared.formula.Cmp.TheVariants.{Le, Lt};
 
@@ -53,4 +65,39 @@ pub fn lowest_terms_are_unique(a: Ratio, b: Ratio)
     requires { Equals (rational a) (rational b) }
     ensures num { a.num ≡ b.num }
     ensures den { a.den ≡ b.den }
+{}
+
+/// What a program leads to depends on the values of the controls alone, and it keeps each control
+/// that it doesn't change.
+pub fn programs_relate_values()
+    ensures equal_values { (prog : Prog) (p x u u' v v' : Values) → Same u u' → Same v v' →
+        Ctrl prog p x u v → Ctrl prog p x u' v' }
+    ensures kept { (prog : Prog) (k : ℕ) (p x u v : Values) → Ctrl prog p x u v →
+        (¬ IsTrue (may_change prog k)) → Equals (u k) (v k) }
+{}
+
+/// A text is read as a number exactly where it is digits, two runs of digits with `/` between, or
+/// two with `.` between, and no part of its fraction is refused.
+pub fn numbers_are_written()
+    ensures read { (text : List ℕ) (n d : ℕ) → Writes text n d → IsTrue (is_read (n, d)) →
+        number text ≡ Some (n, d) }
+    ensures written { (text : List ℕ) (n d : ℕ) → number text ≡ Some (n, d) →
+        Writes text n d × IsTrue (is_read (n, d)) }
+{}
+
+/// Each variable of a model has a place of its own, and each place is some variable's.
+pub fn places_tell_variables()
+    ensures in_range { (p : Places) (v : Var) → IsTrue (has_variable p v) → place p v < place_count p }
+    ensures different { (p : Places) (v w : Var) → IsTrue (has_variable p v) → IsTrue (has_variable p w) →
+        place p v ≡ place p w → v ≡ w }
+    ensures used { (p : Places) (k : ℕ) → k < place_count p →
+        (v : Var) × IsTrue (has_variable p v) × (place p v ≡ k) }
+{}
+
+/// The variables of well formed expressions and formulas have places of the model.
+pub fn variables_have_places()
+    ensures expressions { (k : Kinds) (p : Places) (e : Expr) → IsTrue (is_good_expr k p e) →
+        IsTrue (has_places_below p (place_count p) e) }
+    ensures formulas { (k : Kinds) (p : Places) (f : Formula) → IsTrue (is_good_formula k p f) →
+        IsTrue (formula_has_places_below p (place_count p) f) }
 {}

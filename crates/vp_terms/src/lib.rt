@@ -10,8 +10,10 @@ mod number;
 mod package;
 mod prog;
 mod ratio;
+mod running;
 #[cfg(test)]
 mod tests;
+mod well_formed;
 
 pub use evaluate::{holds_at, value_at};
 pub use expr::{Expr, Places, Var};
@@ -20,3 +22,5 @@ pub use items::{Items, NameList};
 pub use package::{Cert, CertTerm, Names, Package, Part, Plant, Slack};
 pub use prog::Prog;
 pub use ratio::Ratio;
+pub use running::leads_to;
+pub use well_formed::Kinds;

@@ -1,4 +1,7 @@
-use crate::{Cmp, Expr, Formula, Places, Ratio, Var, holds_at, value_at};
+use crate::{
+    Cmp, Expr, Formula, Items, NameList, Names, Package, Places, Plant, Prog, Ratio, Slack, Var,
+    holds_at, leads_to, value_at,
+};
 use std::alloc::Global;
 use std::test::Fail;
 
@@ -176,5 +179,131 @@ fn places(rt: HostRuntime) -> Result<(), Fail> {
     for (var, place) in rows {
         assert_eq!(rt; var.place(places), place);
     }
+    Ok(())
+}
+
+// f >= -3 and x + 10 f + 10 <= H, of the flow in force.
+fn flow_guard(alloc: Global) -> Result<Formula, Fail> {
+    let flow = Expr::Var(Var::Control(0));
+    let least = difference(alloc, constant("0")?, constant("3")?)?;
+    let moved = product(alloc, constant("10")?, flow.copy(alloc)?)?;
+    let level = sum(alloc, Expr::Var(Var::State(0)), moved)?;
+    let level = sum(alloc, level, constant("10")?)?;
+    let above = Formula::Cmp(Cmp::Ge, flow, least);
+    let below = Formula::Cmp(Cmp::Le, level, Expr::Var(Var::Param(0)));
+    Ok(Formula::And(Box::new(alloc, above)?, Box::new(alloc, below)?))
+}
+
+fn sequence(alloc: Global, first: Prog, second: Prog) -> Result<Prog, Fail> {
+    Ok(Prog::Seq(Box::new(alloc, first)?, Box::new(alloc, second)?))
+}
+
+// The tank's controller: any flow that the guard allows, or the flow -3.
+fn controller(alloc: Global) -> Result<Prog, Fail> {
+    let chosen = sequence(alloc, Prog::Any(0), Prog::Test(flow_guard(alloc)?))?;
+    let least = Prog::Assign(0, difference(alloc, constant("0")?, constant("3")?)?);
+    Ok(Prog::Choice(Box::new(alloc, chosen)?, Box::new(alloc, least)?))
+}
+
+// If the guard holds the flow becomes 1, and else 2.
+fn switch(alloc: Global) -> Result<Prog, Fail> {
+    let high = Prog::Assign(0, constant("1")?);
+    let low = Prog::Assign(0, constant("2")?);
+    Ok(Prog::If(
+        flow_guard(alloc)?,
+        Box::new(alloc, high)?,
+        Box::new(alloc, low)?,
+    ))
+}
+
+#[test]
+fn controllers(rt: HostRuntime) -> Result<(), Fail> {
+    let alloc = rt.alloc();
+    let zero = number("0")?;
+    let least = zero.minus(number("3")?).ok_or("too large")?;
+    let tank = controller(alloc)?;
+    let switch = switch(alloc)?;
+    let assigned = Prog::Assign(0, constant("7")?);
+    let tested = sequence(alloc, assigned, Prog::Test(flow_guard(alloc)?))?;
+    let rows = [
+        (&tank, "500", zero, number("5")?, Some(true)),
+        (&tank, "930", zero, number("6")?, Some(true)),
+        (&tank, "930", zero, number("7")?, Some(false)),
+        (&tank, "930", zero, least, Some(true)),
+        (&tank, "4611686018427387903", zero, number("7")?, None),
+        (&tested, "900", zero, number("7")?, Some(true)),
+        (&tested, "930", zero, number("7")?, Some(false)),
+        (&switch, "900", number("9")?, number("1")?, Some(true)),
+        (&switch, "900", number("9")?, number("2")?, Some(false)),
+        (&switch, "930", number("9")?, number("2")?, Some(true)),
+        (&switch, "930", number("9")?, number("1")?, Some(false)),
+    ];
+    for (prog, level, flow, after, expected) in rows {
+        let mut values = [number("1000")?, number(level)?, flow];
+        assert!(rt; prog.is_well_formed(TANK));
+        assert_eq!(rt; leads_to(prog, TANK, &mut values, &[after]), expected);
+    }
+    Ok(())
+}
+
+fn names(alloc: Global, state: &str) -> Result<Names, Fail> {
+    let states = vec![in alloc; String::from_str(alloc, state)?]?;
+    let controls = vec![in alloc; String::from_str(alloc, "a")?]?;
+    Ok(Names {
+        params: NameList::of(Vec::new(alloc)),
+        states: NameList::of(states),
+        controls: NameList::of(controls),
+    })
+}
+
+fn plant(alloc: Global, rates: Vec<Expr>, domain: Formula) -> Result<Plant, Fail> {
+    let slack = Slack {
+        low: constant("0")?,
+        high: constant("0")?,
+    };
+    Ok(Plant {
+        low: constant("0")?,
+        high: constant("10")?,
+        rates: Items::of(rates),
+        slack: Items::of(vec![in alloc; slack]?),
+        domain,
+    })
+}
+
+// A package with one state, whose name is `state`, and one control `a`.
+fn package(alloc: Global, state: &str, rates: Vec<Expr>, domain: Expr) -> Result<Package, Fail> {
+    let domain = Formula::Cmp(Cmp::Le, domain, constant("9")?);
+    Ok(Package {
+        names: names(alloc, state)?,
+        init: Formula::True,
+        inv: Formula::True,
+        safe: Formula::True,
+        ctrl: Prog::Any(0),
+        plant: plant(alloc, rates, domain)?,
+        fallback: Items::of(vec![in alloc; constant("0")?]?),
+        certs: Items::of(Vec::new(alloc)),
+    })
+}
+
+#[test]
+fn packages(rt: HostRuntime) -> Result<(), Fail> {
+    let alloc = rt.alloc();
+    let rate = vec![in alloc; Expr::Var(Var::Control(0))]?;
+    let good = package(alloc, "x", rate, Expr::Var(Var::Tau))?;
+    assert!(rt; good.is_well_formed());
+    let rate = vec![in alloc; Expr::Var(Var::Control(0))]?;
+    let twice = package(alloc, "a", rate, Expr::Var(Var::Tau))?;
+    assert!(rt; !twice.is_well_formed());
+    let none = package(alloc, "x", Vec::new(alloc), Expr::Var(Var::Tau))?;
+    assert!(rt; !none.is_well_formed());
+    let rate = vec![in alloc; Expr::Var(Var::Tau)]?;
+    let timed = package(alloc, "x", rate, Expr::Var(Var::Tau))?;
+    assert!(rt; !timed.is_well_formed());
+    let rate = vec![in alloc; Expr::Var(Var::Control(0))]?;
+    let next = package(alloc, "x", rate, Expr::Var(Var::NextState(0)))?;
+    assert!(rt; !next.is_well_formed());
+    let rate = vec![in alloc; Expr::Var(Var::Control(1))]?;
+    let missing = package(alloc, "x", rate, Expr::Var(Var::Tau))?;
+    assert!(rt; !missing.is_well_formed());
     Ok(())
 }
