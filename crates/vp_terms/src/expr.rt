@@ -2,6 +2,7 @@
 ghost use Rattle.std.specs.Prelude.{◌≡◌, IfOk};
 ghost use Rattle.vp_terms.specs.Places.{place};
 ghost use Rattle.vp_terms.specs.Tree.{expr_tree};
+ghost use Rattle.vp_terms.specs.Variables.{has_places_below};
 
 use crate::Ratio;
 use std::alloc::{AllocError, Global};
@@ -64,6 +65,20 @@ pub enum Expr {
 }
 
 impl Expr {
+    /// Whether each variable has a place below `limit`.
+    pub fn has_places_below(&self, places: Places, limit: u64) -> bool
+        ensures { result ≡ has_places_below places limit self.now }
+    {
+        match self {
+            Expr::Num(_) => true,
+            Expr::Var(variable) => variable.place(places) < limit,
+            Expr::Add(l, r) | Expr::Sub(l, r) | Expr::Mul(l, r) => {
+                l.has_places_below(places, limit) && r.has_places_below(places, limit)
+            }
+            Expr::Pow(base, _) => base.has_places_below(places, limit),
+        }
+    }
+
     /// The same expression once more.
     pub fn copy(&self, alloc: Global) -> Result<Expr, AllocError>
         ensures { IfOk result (λ e. expr_tree e ≡ expr_tree self.now) }

@@ -1,8 +1,9 @@
 //! Formulas.
 ghost use Rattle.std.specs.Prelude.{◌≡◌, IfOk};
 ghost use Rattle.vp_terms.specs.Tree.{formula_tree};
+ghost use Rattle.vp_terms.specs.Variables.{formula_has_places_below};
 
-use crate::Expr;
+use crate::{Expr, Places};
 use std::alloc::{AllocError, Global};
 
 /// How two values compare.
@@ -33,6 +34,22 @@ pub enum Formula {
 }
 
 impl Formula {
+    /// Whether each variable has a place below `limit`.
+    pub fn has_places_below(&self, places: Places, limit: u64) -> bool
+        ensures { result ≡ formula_has_places_below places limit self.now }
+    {
+        match self {
+            Formula::True => true,
+            Formula::Cmp(_, l, r) => {
+                l.has_places_below(places, limit) && r.has_places_below(places, limit)
+            }
+            Formula::And(l, r) | Formula::Or(l, r) => {
+                l.has_places_below(places, limit) && r.has_places_below(places, limit)
+            }
+            Formula::Not(inner) => inner.has_places_below(places, limit),
+        }
+    }
+
     /// The same formula once more.
     pub fn copy(&self, alloc: Global) -> Result<Formula, AllocError>
         ensures { IfOk result (λ f. formula_tree f ≡ formula_tree self.now) }

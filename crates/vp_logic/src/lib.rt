@@ -1,0 +1,20 @@
+//! Normal forms of formulas: atoms over canonical polynomials, and the cases of lists of them.
+#![tactic(auto)]
+
+mod forming;
+pub mod laws;
+mod making;
+mod members;
+mod negation;
+mod norm;
+mod renaming;
+mod splitting;
+#[cfg(test)]
+mod tests;
+
+pub use forming::normal;
+pub use members::{atoms, conjuncts};
+pub use negation::negate;
+pub use norm::{Atom, Norm, Norms, Rel};
+pub use renaming::rename;
+pub use splitting::{CaseErr, cases};

@@ -1,0 +1,15 @@
+pub mod Canonical
+pub mod Coefficient
+pub mod Lcm
+pub mod Merge
+pub mod Places
+pub mod Poly
+pub mod Product
+pub mod Renaming
+pub mod Replaced
+pub mod Rooms
+pub mod Times
+pub mod Unbounded
+pub mod Unity
+pub mod Value
+pub mod Weights
