@@ -1,0 +1,12 @@
+pub mod Atoms
+pub mod Chains
+pub mod Fitting
+pub mod Joining
+pub mod Points
+pub mod Powers
+pub mod Rationals
+pub mod Represented
+pub mod Terms
+pub mod Validity
+pub mod Verdicts
+pub mod Witnesses

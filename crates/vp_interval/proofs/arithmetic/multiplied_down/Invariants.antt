@@ -1,0 +1,7 @@
+use Rattle.std.proofs.Common.{◌≡◌, ◌-◌}
+use Rattle.vp_words.specs.Number.{lower_product}
+use Rattle.vp_interval.specs.Rounding.{multiplied}
+use Rattle.vp_interval.proofs.arithmetic.multiplied_down.Given as goal
+
+abbrev pub invariant-loop : goal.invariant-loop
+invariant-loop l = l.product ≡ multiplied lower_product l.word (l.counter - 1)
