@@ -2,12 +2,14 @@
 ghost use Rattle.std.specs.Prelude.{◌≡◌, ◌≤◌, ◌<◌, length, slice_index, not, nat_eq, true, false};
 ghost use Rattle.vp_lex.specs.Bytes.{is_letter, is_digit, is_word_byte, is_space, is_symbol, is_pair, IsRun, IsCommentEnd};
 
+/// A letter, `A` to `Z` or `a` to `z`.
 pub fn is_letter(byte: u8) -> bool
     ensures { result ≡ is_letter byte }
 {
     matches!(byte, b'A'..=b'Z' | b'a'..=b'z')
 }
 
+/// A decimal digit.
 pub fn is_digit(byte: u8) -> bool
     ensures { result ≡ is_digit byte }
 {
@@ -21,6 +23,7 @@ pub fn is_word_byte(byte: u8) -> bool
     is_letter(byte) || is_digit(byte) || byte == b'_'
 }
 
+/// A space, a tab, CR or LF.
 pub fn is_space(byte: u8) -> bool
     ensures { result ≡ is_space byte }
 {

@@ -24,6 +24,7 @@ pub struct Term {
 }
 
 impl Mono {
+    /// The sum of all exponents.
     pub fn degree(&self) -> u32
         ensures { result ≡ sum self.now.powers }
     {

@@ -3,6 +3,7 @@ pub mod Evaluating
 pub mod Gaps
 pub mod Lowest
 pub mod Naming
+pub mod Numbers
 pub mod Orders
 pub mod Programs
 pub mod RationalLaws

@@ -5,12 +5,14 @@ ghost use Rattle.vp_terms.specs.Meaning.{rational, compares};
 ghost use Rattle.vp_terms.specs.Control.{Values, Same, SameBut, Ctrl};
 ghost use Rattle.vp_terms.specs.Running.{may_change};
 ghost use Rattle.vp_terms.specs.Number.{Writes, is_read, number};
+ghost use Rattle.vp_terms.specs.Ratios.{IsNumber};
 ghost use Rattle.vp_terms.specs.Places.{place, place_count, has_variable};
 ghost use Rattle.vp_terms.specs.Variables.{has_places_below, formula_has_places_below};
 ghost use Rattle.vp_terms.specs.WellFormed.{is_good_expr, is_good_formula};
 ghost use Rattle.vp_terms.specs.declared.well_formed.Kinds.{Kinds};
 ghost use Rattle.vp_terms.specs.declared.expr.Places.{Places};
 ghost use Rattle.vp_terms.specs.declared.expr.Var.{Var};
+ghost use Rattle.vp_terms.specs.declared.ratio.Ratio.{Ratio};
 ghost use Rattle.vp_terms.specs.declared.expr.Expr.{Expr};
 ghost use Rattle.vp_terms.specs.declared.formula.Formula.{Formula};
 ghost use Rattle.vp_terms.specs.declared.prog.Prog.{Prog};
@@ -65,6 +67,16 @@ pub fn lowest_terms_are_unique(a: Ratio, b: Ratio)
     requires { Equals (rational a) (rational b) }
     ensures num { a.num ≡ b.num }
     ensures den { a.den ≡ b.den }
+{}
+
+/// A fraction is its two parts.
+pub fn fractions_are_their_parts()
+    ensures { (a b : Ratio) → a.num ≡ b.num → a.den ≡ b.den → a ≡ b }
+{}
+
+/// A text writes one number at most.
+pub fn texts_write_one_number()
+    ensures { (text : List ℕ) (a b : Ratio) → IsNumber text a → IsNumber text b → a ≡ b }
 {}
 
 /// What a program leads to depends on the values of the controls alone, and it keeps each control
