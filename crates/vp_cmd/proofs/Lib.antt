@@ -1,3 +1,5 @@
+pub mod Checks
 pub mod Dues
 pub mod Early
 pub mod Splits
+pub mod OneDue

@@ -1,6 +1,5 @@
 -- What a call has printed, against what is due.
 use Rattle.std.specs.Prelude.{ℕ, ◌≡◌, ◌<◌, ◌≤◌, ◌++◌, List, [], ◌∷◌, length, Option, None, Some, Result, Ok, Err, IsSomeAnd, option_and_then}
-use Rattle.std.specs.Borrow.{Bor}
 use Rattle.std.specs.Io.KnownBytes.{Appends, Consumes, IsAtEnd, Keeps}
 use Rattle.vp_isa.specs.declared.code.Code.{Code}
 use Rattle.vp_isa.specs.Machine.{State}
@@ -15,7 +14,9 @@ use Rattle.vp_cmd.specs.declared.input.Stop.{Stop}
 use Rattle.vp_cmd.specs.declared.input.Stop.TheVariants.{End, Limit, Fault}
 use Rattle.vp_cmd.specs.declared.status.Status.{Status}
 use Rattle.vp_cmd.specs.declared.status.Status.TheVariants.{Done, ReadFault, WriteFault, StoreFault, WantOfMemory, TooMuch}
-use Rattle.vp_cmd.specs.Outcome.{Due, status_of}
+use Rattle.vp_cmd.specs.declared.command.Command.{Command}
+use Rattle.vp_cmd.specs.declared.command.Command.TheVariants.{Exec, Check}
+use Rattle.vp_cmd.specs.Outcome.{Due, IsCheckDue, IsPackageDue, check_file, exec_file, status_of}
 use Rattle.vp_cmd.specs.Sessions.{answerer_of}
 
 -- a status under which a whole text is printed
@@ -41,6 +42,19 @@ Meets due StoreFault before now = Keeps before now
 Meets due ReadFault before now = Unit {0}
 Meets due WriteFault before now = IsSomeAnd due (λ d. AppendsPart before now d.text)
 Meets due result before now = IsSomeAnd due (λ d. (result ≡ d.status) × Appends before now d.text)
+
+-- the same where what is due is a relation: the status and the bytes are those of something that is due
+abbrev pub Fulfils : (Due → Type 0) → Status → Option (List ℕ) → Option (List ℕ) → Type 0
+Fulfils IsOwed WantOfMemory before now = Keeps before now
+Fulfils IsOwed StoreFault before now = Keeps before now
+Fulfils IsOwed ReadFault before now = Unit {0}
+Fulfils IsOwed WriteFault before now = (d : Due) × IsOwed d × AppendsPart before now d.text
+Fulfils IsOwed result before now = (d : Due) × IsOwed d × (result ≡ d.status) × Appends before now d.text
+
+-- what is due for `check` of a name; of files that are not told it is what is due for some file
+abbrev pub IsOwedFor : List ℕ → Option (List NamedFile) → Due → Type 0
+IsOwedFor name None due = (file : List ℕ) × IsPackageDue file due
+IsOwedFor name (Some files) due = IsCheckDue (file_named name files) due
 
 -- what lines give that have ended the run, or the text so far under the given status
 abbrev pub front_of : Status → List ℕ → Result ℕ Verdict → Due
@@ -94,7 +108,8 @@ abbrev pub AnswersTaken : Option Code → Option (List ℕ) → Option (List ℕ
 AnswersTaken code left_before left_now before now = IsSomeAnd code (λ code. (taken : List ℕ) × (s : Standing State)
     × Consumes left_before left_now taken × ((so_far (answerer_of code) taken).stands ≡ Ok s) × Appends before now (so_far (answerer_of code) taken).text)
 
--- a file's name that was lent
-abbrev pub IsFile : Option (Bor (List ℕ)) → Option (List ℕ) → Type 0
-IsFile None file = file ≡ None
-IsFile (Some name) file = file ≡ Some name.now
+-- the command that words are, with its file, or that they are none
+abbrev pub IsCommand : Option Command → List (List ℕ) → Type 0
+IsCommand None words = (exec_file words ≡ None) × (check_file words ≡ None)
+IsCommand (Some (Exec name)) words = (exec_file words ≡ Some name.now) × (check_file words ≡ None)
+IsCommand (Some (Check name)) words = (exec_file words ≡ None) × (check_file words ≡ Some name.now)

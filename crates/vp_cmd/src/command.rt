@@ -1,36 +1,48 @@
 //! The commands.
-ghost use Rattle.std.specs.Prelude.{◌≡◌, ◌≢◌, IfOk, IfSome, None, Some, [], codes};
+ghost use Rattle.std.specs.Prelude.{◌≡◌, ◌≢◌, ◌≤◌, IfOk, IfSome, None, Some, [], codes, length};
 ghost use Rattle.std.specs.Io.KnownBytes.{IsAtEnd};
 ghost use Rattle.vp_outside.specs.Causes.{Rose};
 ghost use Rattle.vp_outside.specs.Content.{Stays};
 ghost use Rattle.vp_stream.specs.Run.{run};
 ghost use Rattle.vp_image.specs.declared.image.ImageErr.TheVariants.{Memory};
+ghost use Rattle.vp_read.specs.declared.fault.ReadErr.TheVariants as fault;
 ghost use Rattle.vp_image.specs.Image.{image_read};
 ghost use Rattle.vp_cmd.specs.Sessions.{answerer_of};
-ghost use Rattle.vp_cmd.specs.Outcome.{bad_image, command_due, exec_file, image_text, outcome, read_due, run_due, texts, usage_due};
-ghost use Rattle.vp_cmd.specs.Owed.{AnswersTaken, IsFile, IsPrinted, Meets, Prints, code_found, code_named};
+ghost use Rattle.vp_cmd.specs.Outcome.{IsChecked, IsDue, bad_image, check_file, command_due, exec_file, image_text, own_file, package_limit, read_due, read_text, refused, run_due, texts, usage_due};
+ghost use Rattle.vp_cmd.specs.Owed.{AnswersTaken, Fulfils, IsCommand, IsOwedFor, IsPrinted, Meets, Prints, code_found, code_named};
 
 use crate::due::{Printed, due_for};
 use crate::input::read_all;
-use crate::refusal::bad_image;
+use crate::refusal::{bad_image, bad_package};
 use crate::status::Status;
 use std::alloc::{AllocError, Global};
 use vp_image::{ImageErr, read_image};
 use vp_isa::Checked;
 use vp_outside::{LoadErr, Loaded, Sink, Source, Store, write_all};
+use vp_read::{ReadErr, read_package};
 
 /// The most bytes that an image file has.
 const IMAGE_LIMIT: u32 = 2_097_152;
 
+/// The most bytes that a package file has.
+const PACKAGE_LIMIT: u32 = 1_048_576;
+
 const USAGE: &[u8] =
     b"usage: vphy check P | compile P | exec I | run P | list P | log P C | selftest SEED N | demo\n";
 
-/// The file of `exec FILE`.
-fn file_of(words: &[String]) -> Option<&str>
-    ensures { IsFile result (exec_file (texts words.now)) }
+/// A command, with the name of its file.
+enum Command<'a> {
+    Exec(&'a str),
+    Check(&'a str),
+}
+
+/// The command that the words are.
+fn command_of(words: &[String]) -> Option<Command>
+    ensures { IsCommand result (texts words.now) }
 {
     match words {
-        [command, name] if command.as_str() == "exec" => Some(name.as_str()),
+        [command, name] if command.as_str() == "exec" => Some(Command::Exec(name.as_str())),
+        [command, name] if command.as_str() == "check" => Some(Command::Check(name.as_str())),
         _ => None,
     }
 }
@@ -130,6 +142,50 @@ fn exec<St: Store, So: Source, Si: Sink>(
     }
 }
 
+/// Prints why a text is no package, unless that is want of memory.
+fn refuse_package<Si: Sink>(alloc: Global, why: ReadErr, out: &mut Si) -> Status
+    ensures memory { why ≡ fault.Memory → result ≡ Status.WantOfMemory }
+    ensures text { Prints (refused (read_text why)) result (Si.written out.old) (Si.written out.new) }
+    ensures failed { result ≡ Status.WriteFault → Rose (Si.faults out.old) (Si.faults out.new) }
+    ensures no_read_fault { result ≢ Status.ReadFault }
+{
+    match bad_package(alloc, why) {
+        Ok(due) => print(out, due.status, &due.text),
+        Err(_) => Status::WantOfMemory,
+    }
+}
+
+/// Checks the package of a text, which is not too long.
+fn check_text<Si: Sink>(alloc: Global, text: &[u8], out: &mut Si) -> Status
+    requires { length text.now ≤ package_limit }
+    ensures content { Fulfils (IsChecked text.now) result (Si.written out.old) (Si.written out.new) }
+    ensures write_fault { result ≡ Status.WriteFault → Rose (Si.faults out.old) (Si.faults out.new) }
+    ensures no_read_fault { result ≢ Status.ReadFault }
+    ensures no_store_fault { result ≢ Status.StoreFault }
+{
+    match read_package(alloc, text) {
+        Ok(_) => print(out, Status::Refused, b"refused unbuilt\n"),
+        Err(why) => refuse_package(alloc, why, out),
+    }
+}
+
+/// Checks the package in a file.
+fn check<St: Store, Si: Sink>(alloc: Global, name: &str, store: &mut St, out: &mut Si) -> Status
+    ensures content { Fulfils (IsOwedFor name.now (St.files store.old)) result (Si.written out.old) (Si.written out.new) }
+    ensures write_fault { result ≡ Status.WriteFault → Rose (Si.faults out.old) (Si.faults out.new) }
+    ensures store_fault { result ≡ Status.StoreFault → Rose (St.faults store.old) (St.faults store.new) }
+    ensures store_name { result ≡ Status.StoreFault → St.failed store.new ≡ name.now }
+    ensures no_read_fault { result ≢ Status.ReadFault }
+{
+    let mut text = Vec::new(alloc);
+    match store.load(alloc, name, PACKAGE_LIMIT, &mut text) {
+        Ok(Loaded::Whole) => check_text(alloc, &text, out),
+        Ok(Loaded::TooLong) => print(out, Status::Refused, b"refused length\n"),
+        Err(LoadErr::Failed) => Status::StoreFault,
+        Err(LoadErr::Memory) => Status::WantOfMemory,
+    }
+}
+
 /// Does what the words after the program's name say, and answers the exit status. The commands and
 /// all that they print are described in `docs/commands.md`.
 pub fn vphy<St: Store, So: Source, Si: Sink>(
@@ -139,10 +195,11 @@ pub fn vphy<St: Store, So: Source, Si: Sink>(
     input: &mut So,
     out: &mut Si,
 ) -> Status
-    // The status and the bytes are those that are due, or memory ran out and nothing was written, or
-    // something outside failed.
-    ensures content { IfSome (St.files store.old) (λ files. IfSome (So.left input.old) (λ bytes. Meets (outcome (texts words.now) files bytes) result (Si.written out.old) (Si.written out.new))) }
-    ensures usage { exec_file (texts words.now) ≡ None → Prints usage_due result (Si.written out.old) (Si.written out.new) }
+    // The status and the bytes are those of something that is due, or memory ran out and nothing was
+    // written, or something outside failed.
+    ensures content { IfSome (St.files store.old) (λ files. IfSome (So.left input.old) (λ bytes. Fulfils (IsDue (texts words.now) files bytes) result (Si.written out.old) (Si.written out.new))) }
+    ensures usage { own_file (texts words.now) ≡ None → Prints usage_due result (Si.written out.old) (Si.written out.new) }
+    ensures checked { IfSome (check_file (texts words.now)) (λ name. Fulfils (IsOwedFor name (St.files store.old)) result (Si.written out.old) (Si.written out.new)) }
 
     // How much of the input was read.
     ensures read_to_end { result ≡ Status.Done → IsAtEnd (So.left input.new) }
@@ -151,13 +208,15 @@ pub fn vphy<St: Store, So: Source, Si: Sink>(
 
     // A fault is answered only where its object's count rose, and what it leaves.
     ensures read_fault { result ≡ Status.ReadFault → Rose (So.faults input.old) (So.faults input.new) }
+    ensures no_read_fault { exec_file (texts words.now) ≡ None → result ≢ Status.ReadFault }
     ensures read_text { result ≡ Status.ReadFault → IfSome (St.files store.old) (λ files. AnswersTaken (code_named (exec_file (texts words.now)) files) (So.left input.old) (So.left input.new) (Si.written out.old) (Si.written out.new)) }
     ensures write_fault { result ≡ Status.WriteFault → Rose (Si.faults out.old) (Si.faults out.new) }
     ensures store_fault { result ≡ Status.StoreFault → Rose (St.faults store.old) (St.faults store.new) }
-    ensures store_name { result ≡ Status.StoreFault → exec_file (texts words.now) ≡ Some (St.failed store.new) }
+    ensures store_name { result ≡ Status.StoreFault → own_file (texts words.now) ≡ Some (St.failed store.new) }
 {
-    match file_of(words) {
-        Some(name) => exec(alloc, name, store, input, out),
+    match command_of(words) {
+        Some(Command::Exec(name)) => exec(alloc, name, store, input, out),
+        Some(Command::Check(name)) => check(alloc, name, store, out),
         None => print(out, Status::Usage, USAGE),
     }
 }

@@ -4,6 +4,7 @@
 mod command;
 mod due;
 mod input;
+pub mod laws;
 mod refusal;
 mod session;
 mod status;

@@ -1,13 +1,15 @@
-//! The lines that say why a file is no image.
+//! The lines that say why a file is no image, or no package.
 ghost use Rattle.std.specs.Prelude.{◌≡◌, ◌≢◌, ◌++◌, IfOk, OnOk};
 ghost use Rattle.vp_image.specs.declared.image.ImageErr.TheVariants.{Memory};
-ghost use Rattle.vp_cmd.specs.Outcome.{bad_image, check_text, image_text, place_text};
+ghost use Rattle.vp_read.specs.declared.fault.ReadErr.TheVariants as fault;
+ghost use Rattle.vp_cmd.specs.Outcome.{bad_image, check_text, image_text, place_text, read_text, refused};
 
 use crate::due::Printed;
 use crate::status::Status;
 use std::alloc::{AllocError, Global};
 use vp_image::ImageErr;
 use vp_isa::CheckErr;
+use vp_read::{NameText, ReadErr};
 
 /// Writes words and the number of a place.
 fn push_place(alloc: Global, words: &str, at: u32, text: &mut Vec<u8>) -> Result<(), AllocError>
@@ -62,6 +64,54 @@ pub(crate) fn bad_image(alloc: Global, why: ImageErr) -> Result<Printed, AllocEr
     text.push(b'\n')?;
     Ok(Printed {
         status: Status::BadImage,
+        text,
+    })
+}
+
+/// Writes words and a name.
+fn push_name(words: &str, name: &NameText, text: &mut Vec<u8>) -> Result<(), AllocError>
+    ensures { OnOk result (text.new.items ≡ text.old.items ++ (words.now ++ name.now)) }
+{
+    text.extend_from_slice(words.as_bytes())?;
+    text.extend_from_slice(name.get().as_bytes())
+}
+
+/// Writes why a text is no package. Want of memory has no words: it is passed on.
+fn push_read(alloc: Global, why: ReadErr, text: &mut Vec<u8>) -> Result<(), AllocError>
+    ensures text { OnOk result (text.new.items ≡ text.old.items ++ read_text why) }
+    ensures memory { OnOk result (why ≢ fault.Memory) }
+{
+    match why {
+        ReadErr::Lex { at } => push_place(alloc, "lex ", at, text),
+        ReadErr::Number { at } => push_place(alloc, "number ", at, text),
+        ReadErr::Deep { piece } => push_place(alloc, "deep ", piece, text),
+        ReadErr::Section { piece } => push_place(alloc, "section ", piece, text),
+        ReadErr::Names { count } => push_place(alloc, "names ", count, text),
+        ReadErr::Twice { name } => push_name("twice ", &name, text),
+        ReadErr::Entries { piece, count } => {
+            push_place(alloc, "entries ", piece, text)?;
+            push_place(alloc, " ", count, text)
+        }
+        ReadErr::Undeclared { name, piece } => {
+            push_name("undeclared ", &name, text)?;
+            push_place(alloc, " ", piece, text)
+        }
+        ReadErr::Memory => Err(AllocError),
+    }
+}
+
+/// What is due for a text that is no package.
+pub(crate) fn bad_package(alloc: Global, why: ReadErr) -> Result<Printed, AllocError>
+    ensures due { IfOk result (λ due. record { status = due.status; text = due.text.items } ≡ refused (read_text why)) }
+    ensures printed { IfOk result (λ due. due.status ≡ Status.Refused) }
+    ensures memory { OnOk result (why ≢ fault.Memory) }
+{
+    let mut text = Vec::new(alloc);
+    text.extend_from_slice(b"refused ")?;
+    push_read(alloc, why, &mut text)?;
+    text.push(b'\n')?;
+    Ok(Printed {
+        status: Status::Refused,
         text,
     })
 }

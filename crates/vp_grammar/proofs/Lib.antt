@@ -1,0 +1,14 @@
+pub mod CertificateForms
+pub mod CertificateSteps
+pub mod ControllerSteps
+pub mod ControllerUnique
+pub mod EntrySteps
+pub mod FormulaSteps
+pub mod FormulaUnique
+pub mod GoodControllers
+pub mod GoodEntries
+pub mod GoodTrees
+pub mod HeadingSteps
+pub mod Lists
+pub mod Steps
+pub mod Unique

@@ -1,0 +1,23 @@
+use Rattle.std.proofs.Common.{◌≡◌, ◌≢◌, length, [], map, rules}
+use Rattle.std.proofs.lemmas.Result.{err_from_is_err_and}
+use Rattle.vp_grammar.specs.declared.terminal.Word.TheVariants as word
+use Rattle.vp_grammar.specs.Entries.{SpellsBounds, slack_tree}
+use Rattle.vp_grammar.specs.EntryReads.{Listed, IsBound}
+use Rattle.vp_grammar.proofs.Lists.{Piece, piece_fails, piece_goes, fails_alike, read_whole, goes_behind}
+use Rattle.vp_grammar.proofs.EntrySteps.{comma, bound_list_once, bounds_piece, piece_bounds}
+use Rattle.vp_grammar.proofs.entries.bounds.Goals as goal
+
+pub returns-in_err-found : goal.returns-in_err-found
+returns-in_err-found c =
+    let p = err_from_is_err_and c.from_residual.result c.from_residual.ensures.1 in
+    rw (p.1, p.2) (fails_alike (Piece word.Slack (Listed IsBound comma) [] c.args.terminals.now) (SpellsBounds c.args.terminals.now) c.in_err-found.field-0.0 (bounds_piece c.args.terminals.now) (piece_fails word.Slack (Listed IsBound comma) [] c.args.terminals.now c.in-Some.more.now c.in_err-found.field-0.0 c.in-Some.ensures c.in_err-found.ensures))
+
+pub returns-then-is_empty : goal.returns-then-is_empty
+returns-then-is_empty c =
+    let n : length c.in_ok-found.rest.now ≡ 0 = search rules in
+    piece_bounds c.args.terminals.now (map slack_tree c.in_ok-found.found.items) (c.in-Some.more.now, c.in-Some.ensures, read_whole (Listed IsBound comma) c.in-Some.more.now c.in_ok-found.rest.now (map slack_tree c.in_ok-found.found.items) c.in_ok-found.ensures n)
+
+pub returns-else-is_empty : goal.returns-else-is_empty
+returns-else-is_empty c =
+    let n : length c.in_ok-found.rest.now ≢ 0 = search rules in
+    λ t s. piece_goes word.Slack (Listed IsBound comma) bound_list_once [] c.args.terminals.now c.in-Some.more.now c.in_ok-found.rest.now (map slack_tree c.in_ok-found.found.items) c.in-Some.ensures c.in_ok-found.ensures (goes_behind c.in_ok-found.rest.now n) t (bounds_piece c.args.terminals.now t s)

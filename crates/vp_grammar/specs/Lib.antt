@@ -1,0 +1,12 @@
+pub mod Certificates
+pub mod CertificateReads
+pub mod Controllers
+pub mod Entries
+pub mod EntryReads
+pub mod Formulas
+pub mod FormulaReads
+pub mod Front
+pub mod Good
+pub mod Grammar
+pub mod Heading
+pub mod Reads

@@ -1,0 +1,15 @@
+pub mod Digits
+pub mod Marks
+pub mod PieceSteps
+pub mod TerminalSteps
+pub mod StraySteps
+pub mod AgainSteps
+pub mod SectionSteps
+pub mod NamesWithin
+pub mod Scanned
+pub mod Drafting
+pub mod Parting
+pub mod GoodPackages
+pub mod OneTerminal
+pub mod OneReading
+pub mod NumberSteps

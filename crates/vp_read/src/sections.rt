@@ -1,0 +1,234 @@
+//! The pieces of a package, each by the form that it is to have.
+ghost use Rattle.std.specs.Prelude.{◌≡◌, ◌≤◌, ◌<◌, drop, length, map, string_bytes, Decides, All, IfOk, codes};
+ghost use Rattle.vp_terms.specs.Tree.{expr_tree, formula_tree, prog_tree};
+ghost use Rattle.vp_lex.specs.Tokens.{IsToken};
+ghost use Rattle.vp_grammar.specs.FormulaReads.{SpellsFormulaPiece};
+ghost use Rattle.vp_grammar.specs.Controllers.{SpellsController};
+ghost use Rattle.vp_grammar.specs.Entries.{SpellsEntries, SpellsBounds, SpellsTimes, slack_tree};
+ghost use Rattle.vp_grammar.specs.declared.terminal.Word.TheVariants as word;
+ghost use Rattle.vp_grammar.specs.declared.entries.Mark.TheVariants as mark;
+ghost use Rattle.vp_read.specs.Pieces.{items, piece};
+ghost use Rattle.vp_read.specs.Naming.{IsWithin, StandsIn};
+ghost use Rattle.vp_read.specs.Sections.{IsHeading, IsListed, ReadsBody, ReadsCerts, ReadsHead, ReadsPiece, of_form, second_text, spelled};
+
+use crate::fault::ReadErr;
+use crate::naming::string_of;
+use crate::pieces::piece;
+use crate::terminals::token_text;
+use std::alloc::{AllocError, Global};
+use vp_grammar::{
+    Mark, ParseErr, Span, Terminal, Word, formula_piece, whole_certificate, whole_controller,
+    whole_entries,
+};
+use vp_lex::Token;
+use vp_terms::{Cert, Expr, Formula, Items, NameList, Names, Package, Plant, Prog, Slack};
+
+/// Why the piece of a number is not what it is to be.
+pub(crate) fn refusal(number: u32, why: ParseErr) -> ReadErr
+    ensures { result ≡ of_form number why }
+{
+    match why {
+        ParseErr::Form => ReadErr::Section { piece: number },
+        ParseErr::Memory => ReadErr::Memory,
+    }
+}
+
+// A piece that is a word, a formula and `;`.
+fn condition(
+    alloc: Global,
+    word: Word,
+    number: u32,
+    pieces: &[Vec<Terminal>],
+) -> Result<Formula, ReadErr>
+    requires { 0 < number }
+    ensures { ReadsPiece formula_tree (SpellsFormulaPiece word (piece (map items pieces.now) number)) number result }
+{
+    match formula_piece(alloc, word, piece(pieces, number as usize)) {
+        Ok(formula) => Ok(formula),
+        Err(why) => Err(refusal(number, why)),
+    }
+}
+
+// The controller.
+fn controller(alloc: Global, pieces: &[Vec<Terminal>]) -> Result<Prog, ReadErr>
+    ensures { ReadsPiece prog_tree (SpellsController (piece (map items pieces.now) 8)) 8 result }
+{
+    match whole_controller(alloc, piece(pieces, 8)) {
+        Ok(program) => Ok(program),
+        Err(why) => Err(refusal(8, why)),
+    }
+}
+
+// The bounds of the time.
+fn times(alloc: Global, pieces: &[Vec<Terminal>]) -> Result<(Expr, Expr), ReadErr>
+    ensures { ReadsPiece (λ x. (expr_tree x.0, expr_tree x.1)) (SpellsTimes (piece (map items pieces.now) 9)) 9 result }
+{
+    match vp_grammar::times(alloc, piece(pieces, 9)) {
+        Ok(bounds) => Ok(bounds),
+        Err(why) => Err(refusal(9, why)),
+    }
+}
+
+// A piece that lists expressions, each with its name.
+fn entries(
+    alloc: Global,
+    word: Word,
+    mark: Mark,
+    number: u32,
+    pieces: &[Vec<Terminal>],
+) -> Result<Vec<Expr>, ReadErr>
+    requires { 0 < number }
+    ensures { ReadsPiece (λ v. map expr_tree v.items) (SpellsEntries word mark (piece (map items pieces.now) number)) number result }
+{
+    match whole_entries(alloc, word, mark, piece(pieces, number as usize)) {
+        Ok(exprs) => Ok(exprs),
+        Err(why) => Err(refusal(number, why)),
+    }
+}
+
+// The slack.
+fn bounds(alloc: Global, pieces: &[Vec<Terminal>]) -> Result<Vec<Slack>, ReadErr>
+    ensures { ReadsPiece (λ v. map slack_tree v.items) (SpellsBounds (piece (map items pieces.now) 11)) 11 result }
+{
+    match vp_grammar::bounds(alloc, piece(pieces, 11)) {
+        Ok(slack) => Ok(slack),
+        Err(why) => Err(refusal(11, why)),
+    }
+}
+
+// Whether the first piece is `package 1;`.
+fn is_heading(text: &[u8], tokens: &[Token], first: &[Terminal]) -> bool
+    requires { All (λ t. IsToken text.now t) tokens.now }
+    ensures { Decides result (IsHeading text.now tokens.now first.now) }
+{
+    vp_grammar::is_heading(first) && is_second(text, tokens)
+}
+
+// Whether the second token is spelled `1`.
+fn is_second(text: &[u8], tokens: &[Token]) -> bool
+    requires { All (λ t. IsToken text.now t) tokens.now }
+    ensures { Decides result (second_text text.now tokens.now ≡ codes "1") }
+{
+    match tokens {
+        [_, second, ..] => token_text(text, *second) == b"1".as_slice(),
+        _ => false,
+    }
+}
+
+// The names that spans of a text spell.
+fn spelled(alloc: Global, text: &[u8], spans: &[Span]) -> Result<Vec<String>, AllocError>
+    requires { All (IsWithin text.now) spans.now }
+    ensures { IfOk result (λ v. map string_bytes v.items ≡ spelled text.now spans.now) }
+{
+    let mut names = Vec::new(alloc);
+    for span in spans {
+        names.push(string_of(alloc, text, *span)?)?;
+    }
+    Ok(names)
+}
+
+// A piece that lists names behind a word.
+fn listed(
+    alloc: Global,
+    text: &[u8],
+    word: Word,
+    least: usize,
+    number: u32,
+    pieces: &[Vec<Terminal>],
+) -> Result<NameList, ReadErr>
+    requires number { 0 < number }
+    requires least { least ≤ 1 }
+    requires within { All (λ v. All (StandsIn text.now) v.items) pieces.now }
+    ensures { ReadsPiece (λ l. l) (IsListed text.now word least (piece (map items pieces.now) number)) number result }
+{
+    match vp_grammar::names(alloc, word, least, piece(pieces, number as usize)) {
+        Ok(spans) => Ok(NameList::of(spelled(alloc, text, &spans)?)),
+        Err(why) => Err(refusal(number, why)),
+    }
+}
+
+/// The names that pieces 1 to 4 declare.
+pub(crate) fn head(
+    alloc: Global,
+    text: &[u8],
+    tokens: &[Token],
+    pieces: &[Vec<Terminal>],
+) -> Result<Names, ReadErr>
+    requires tokens { All (λ t. IsToken text.now t) tokens.now }
+    requires within { All (λ v. All (StandsIn text.now) v.items) pieces.now }
+    ensures { ReadsHead text.now tokens.now (map items pieces.now) result }
+{
+    if !is_heading(text, tokens, piece(pieces, 1)) {
+        return Err(ReadErr::Section { piece: 1 });
+    }
+    let params = listed(alloc, text, Word::Params, 0, 2, pieces)?;
+    let states = listed(alloc, text, Word::States, 1, 3, pieces)?;
+    let controls = listed(alloc, text, Word::Controls, 1, 4, pieces)?;
+    Ok(Names {
+        params,
+        states,
+        controls,
+    })
+}
+
+// The certificates of the pieces behind the 13th.
+fn certificates(alloc: Global, pieces: &[Vec<Terminal>]) -> Result<Vec<Cert>, ReadErr>
+    requires { length pieces.now ≤ 1048576 }
+    ensures { ReadsCerts 14 (map items pieces.now) result }
+{
+    let mut certs = Vec::new(alloc);
+    for (i, piece) in pieces.iter().enumerate() {
+        match whole_certificate(alloc, piece) {
+            Ok(cert) => certs.push(cert)?,
+            Err(why) => return Err(refusal(i as u32 + 14, why)),
+        }
+    }
+    Ok(certs)
+}
+
+// The pieces behind the 13th.
+fn behind(pieces: &[Vec<Terminal>]) -> &[Vec<Terminal>]
+    ensures { result.now ≡ drop 13 pieces.now }
+{
+    match pieces.get(13..) {
+        Some(behind) => behind,
+        None => &[],
+    }
+}
+
+/// The package of these names that the pieces from the fifth on describe.
+pub(crate) fn body(
+    alloc: Global,
+    names: Names,
+    pieces: &[Vec<Terminal>],
+) -> Result<Package, ReadErr>
+    requires { length pieces.now ≤ 1048576 }
+    ensures { ReadsBody names (map items pieces.now) result }
+{
+    let init = condition(alloc, Word::Init, 5, pieces)?;
+    let inv = condition(alloc, Word::Inv, 6, pieces)?;
+    let safe = condition(alloc, Word::Safe, 7, pieces)?;
+    let ctrl = controller(alloc, pieces)?;
+    let (low, high) = times(alloc, pieces)?;
+    let rates = entries(alloc, Word::Flow, Mark::Rate, 10, pieces)?;
+    let slack = bounds(alloc, pieces)?;
+    let domain = condition(alloc, Word::Domain, 12, pieces)?;
+    let fallback = entries(alloc, Word::Fallback, Mark::Setting, 13, pieces)?;
+    let certs = certificates(alloc, behind(pieces))?;
+    Ok(Package {
+        names,
+        init,
+        inv,
+        safe,
+        ctrl,
+        plant: Plant {
+            low,
+            high,
+            rates: Items::of(rates),
+            slack: Items::of(slack),
+            domain,
+        },
+        fallback: Items::of(fallback),
+        certs: Items::of(certs),
+    })
+}

@@ -1,0 +1,126 @@
+ghost use Rattle.std.specs.Prelude.{◌≤◌, IfOk};
+ghost use Rattle.vp_terms.specs.Places.{place_count};
+ghost use Rattle.vp_terms.specs.WellFormed.{places_of};
+
+use crate::{read_cert, read_expr, read_formula, read_package};
+use std::alloc::{AllocError, Global};
+use std::test::Fail;
+use vp_lex::{Token, tokens};
+use vp_terms::{NameList, Names};
+
+const TANK: &str = "package 1;
+params H;
+states x;
+controls f;
+init x <= H;
+inv x <= H;
+safe x <= H;
+ctrl {f := *; ?f >= -3 & x + 10*f + 10 <= H;} ++ {f := -3;};
+time 0 to 10;
+flow x' = f;
+slack x from -tau to tau;
+domain true;
+fallback f = -3;
+cert init 1 {pos 1 of 2; sum 1 of 1;};
+cert step 4611686018427387903 {pos 10 of 8; sum 10 sq(x@) of 5*1; eq 2 times (-tau);};
+";
+
+// How a text is read: as a package, shown, or why it is none.
+fn shown(alloc: Global, text: &str) -> Result<String, Fail> {
+    if text.len() > 1_048_576 {
+        return Ok(format!(in alloc; "too long")?);
+    }
+    match read_package(alloc, text.as_bytes()) {
+        Ok(pkg) => Ok(format!(in alloc; "{:?} {:?} {:?}", pkg.ctrl, pkg.plant.slack, pkg.certs)?),
+        Err(why) => Ok(format!(in alloc; "{why:?}")?),
+    }
+}
+
+#[test]
+fn packages(rt: HostRuntime) -> Result<(), Fail> {
+    let alloc = rt.alloc();
+    for (text, expected) in [
+        ("", "Section { piece: 1 }"),
+        ("$", "Lex { at: 0 }"),
+        ("package 4611686018427387904;", "Number { at: 8 }"),
+        ("package 01;", "Section { piece: 1 }"),
+        (
+            "package 1; params H, H; states x; controls f;",
+            "Section { piece: 5 }",
+        ),
+    ] {
+        assert_eq!(rt; shown(alloc, text)?.as_str(), expected, "of {text}");
+    }
+    let tank = shown(alloc, TANK)?;
+    assert!(rt; tank.contains("number: 4294967295"), "{tank}");
+    assert!(rt;
+        tank.contains("Seq(Any(0), Test(And(Cmp(Ge, Var(Control(0)), "),
+        "{tank}"
+    );
+    assert!(rt; tank.contains("NextState(0)"), "{tank}");
+    Ok(())
+}
+
+// One parameter `H`, one state `x` and one control `f`.
+fn names(alloc: Global) -> Result<Names, AllocError>
+    ensures { IfOk result (λ n. place_count (places_of n) ≤ 32) }
+{
+    Ok(Names {
+        params: NameList::of(vec![in alloc; "H".to_string(alloc)?]?),
+        states: NameList::of(vec![in alloc; "x".to_string(alloc)?]?),
+        controls: NameList::of(vec![in alloc; "f".to_string(alloc)?]?),
+    })
+}
+
+// A whole text read as a formula, an expression and a certificate.
+fn parts(alloc: Global, text: &str) -> Result<String, Fail> {
+    let text = text.as_bytes();
+    if text.len() > 1_048_576 {
+        return Ok(format!(in alloc; "too long")?);
+    }
+    let names = names(alloc)?;
+    let Ok(found) = tokens(alloc, text) else {
+        return Ok(format!(in alloc; "no tokens")?);
+    };
+    let formula = read_formula(alloc, text, &found, &names);
+    let expr = read_expr(alloc, text, &found, &names);
+    let cert = read_cert(alloc, text, &found, &names);
+    Ok(format!(in alloc; "{formula:?} / {expr:?} / {cert:?}")?)
+}
+
+#[test]
+fn single_parts(rt: HostRuntime) -> Result<(), Fail> {
+    let alloc = rt.alloc();
+    let none = "Err(Section { piece: 0 })";
+    for (text, formula, expr, cert) in [
+        ("", none, none, none),
+        ("true", "Ok(True)", none, none),
+        ("x@", none, "Ok(Var(NextState(0)))", none),
+        (
+            "x + y@",
+            none,
+            "Err(Undeclared { name: NameText { name: \"y@\" }, piece: 0 })",
+            none,
+        ),
+        (
+            "cert safe 2 {pos 3;};",
+            none,
+            none,
+            "Ok(Cert { part: Safe, number: 2, terms: Items { items: [Pos { times: 3, labels: Items { items: [] } }] } })",
+        ),
+        (
+            "H + 5/0",
+            "Err(Number { at: 4 })",
+            "Err(Number { at: 4 })",
+            "Err(Number { at: 4 })",
+        ),
+    ] {
+        let expected = format!(in alloc; "{formula} / {expr} / {cert}")?;
+        assert_eq!(rt;
+            parts(alloc, text)?.as_str(),
+            expected.as_str(),
+            "of {text}"
+        );
+    }
+    Ok(())
+}
