@@ -1,5 +1,5 @@
 -- Records of words, what is due, and how many words a record has.
-use Rattle.std.specs.Prelude.{◌≡◌, ℕ, zero, suc, ◌+◌, ◌-◌, ◌*◌, ◌≤◌, ◌++◌, ◌∷◌, [], ℤ, pos, List, length, replicate, take, Option, None, Some, Bool, false, ◌&&◌, IsTrue}
+use Rattle.std.specs.Prelude.{◌≡◌, ℕ, zero, suc, ◌+◌, ◌-◌, ◌*◌, ◌≤◌, ◌++◌, ◌∷◌, [], ℤ, pos, List, length, replicate, take, Option, None, Some, Bool, false, ◌&&◌, nat_le, IsTrue}
 use Rattle.vp_words.specs.declared.record.Kind.{Kind}
 use Rattle.vp_words.specs.declared.record.Kind.TheVariants.{Init, Choice, Sense}
 use Rattle.vp_words.specs.declared.record.Due.{Due}
@@ -19,6 +19,10 @@ place_count c = c.params + 2 * c.states + 2 * c.controls + 1
 -- a model has a state and a control, and at most 32 places
 abbrev pub IsValid : Counts → Type 0
 IsValid c = (1 ≤ c.states) × (1 ≤ c.controls) × (place_count c ≤ 32)
+
+-- the same as a test
+abbrev pub is_valid : Counts → Bool
+is_valid c = nat_le 1 c.states && (nat_le 1 c.controls && nat_le (place_count c) 32)
 
 -- how many words a record of the kind has
 abbrev pub field_count : Kind → Counts → ℕ
@@ -49,6 +53,12 @@ kind_due due.Init = Some Init
 kind_due due.Choice = Some Choice
 kind_due due.Sense = Some Sense
 kind_due due.Ended = None
+
+-- what is due where a record of the kind is
+abbrev pub due_for : Kind → Due
+due_for Init = due.Init
+due_for Choice = due.Choice
+due_for Sense = due.Sense
 
 -- words with zeros behind them, n in all
 abbrev pub padded : ℕ → List ℤ → List ℤ

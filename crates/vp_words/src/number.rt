@@ -1,5 +1,5 @@
 //! The words and their arithmetic.
-ghost use Rattle.std.specs.Prelude.{◌≡◌, ◌≢◌, ◌≤◌, ◌↔◌, ◌≤ℤ◌, ◌<ℤ◌, ◌+ℤ◌, ◌*ℤ◌, pos, neg_ℤ, IsTrue, IsSome, IfSome};
+ghost use Rattle.std.specs.Prelude.{◌≡◌, ◌≢◌, ◌≤◌, ◌↔◌, ◌≤ℤ◌, ◌<ℤ◌, ◌+ℤ◌, ◌*ℤ◌, pos, neg_ℤ, int_lt, not, IsTrue, IsSome, IfSome};
 ghost use Rattle.std.specs.Int.{int_min, int_max};
 ghost use Rattle.std.specs.Ordering.{int_eq};
 ghost use Rattle.vp_words.specs.Number.{IsWord, greatest, least, inf, minus_inf, rounded_down, rounded_up, lower_sum, upper_sum, lower_product, upper_product, infinity_of, is_finite, is_infinite};
@@ -163,21 +163,24 @@ pub fn max(a: Word, b: Word) -> Word
 
 /// Whether `a` is at least `b`.
 pub fn ge(a: Word, b: Word) -> bool
-    ensures { IsTrue result ↔ (b ≤ℤ a) }
+    ensures test { result ≡ not (int_lt a b) }
+    ensures order { IsTrue result ↔ (b ≤ℤ a) }
 {
     a.value >= b.value
 }
 
 /// Whether `a` is above `b`.
 pub fn gt(a: Word, b: Word) -> bool
-    ensures { IsTrue result ↔ (b <ℤ a) }
+    ensures test { result ≡ int_lt b a }
+    ensures order { IsTrue result ↔ (b <ℤ a) }
 {
     a.value > b.value
 }
 
 /// Whether `a` and `b` are the same word.
 pub fn same(a: Word, b: Word) -> bool
-    ensures { IsTrue result ↔ (a ≡ b) }
+    ensures test { result ≡ int_eq a b }
+    ensures equal { IsTrue result ↔ (a ≡ b) }
 {
     a.value == b.value
 }

@@ -3,7 +3,7 @@ ghost use Rattle.std.specs.Prelude.{◌≡◌, ◌*◌, ◌≤◌, ◌↔◌, Is
 ghost use Rattle.std.specs.List.{list_all};
 ghost use Rattle.std.specs.Ordering.{int_eq};
 ghost use Rattle.vp_words.specs.Number.{is_finite};
-ghost use Rattle.vp_words.specs.Record.{IsRecord, IsValid, field_count, pair_count, pairs_then_finite};
+ghost use Rattle.vp_words.specs.Record.{IsRecord, IsValid, due_for, field_count, is_valid, kind_due, pair_count, pairs_then_finite, place_count};
 
 use crate::{Word, encloses};
 
@@ -79,6 +79,51 @@ pub enum Reply {
         fallback: bool,
     },
     Violation(Why),
+}
+
+impl Kind {
+    /// What is due where a record of this kind is.
+    pub fn due(self) -> Due
+        ensures { result ≡ due_for self }
+    {
+        match self {
+            Kind::Init => Due::Init,
+            Kind::Choice => Due::Choice,
+            Kind::Sense => Due::Sense,
+        }
+    }
+}
+
+impl Due {
+    /// The kind of the record that is due, unless nothing is.
+    pub fn kind(self) -> Option<Kind>
+        ensures { result ≡ kind_due self }
+    {
+        match self {
+            Due::Init => Some(Kind::Init),
+            Due::Choice => Some(Kind::Choice),
+            Due::Sense => Some(Kind::Sense),
+            Due::Ended => None,
+        }
+    }
+}
+
+impl Counts {
+    /// How many places the variables of such a model have: one for each parameter, two for each state
+    /// and control, and one for the time that passed.
+    pub fn place_count(self) -> u32
+        ensures { result ≡ place_count self }
+    {
+        u32::from(self.params) + 2 * u32::from(self.states) + 2 * u32::from(self.controls) + 1
+    }
+
+    /// Whether a model may have so many: a state and a control at least, and at most 32 places.
+    pub fn is_valid(self) -> bool
+        ensures test { result ≡ is_valid self }
+        ensures valid { IsTrue result ↔ IsValid self }
+    {
+        self.states >= 1 && self.controls >= 1 && self.place_count() <= 32
+    }
 }
 
 /// How many words a record of the kind has.
