@@ -9,14 +9,16 @@ use Rattle.vp_outside.specs.declared.store.LoadErr.TheVariants.{Failed}
 abbrev pub Rose : ℕ → ℕ → Type 0
 Rose before now = next_count before ≤ now
 
--- the count never falls, and a fault is answered only where it rose
+-- the count never falls; it rose where a fault is answered, and is as before at an Ok
 pub record HasCause {T E : Type 0} (before now : ℕ) (result : Result T E) : Type 0 where
   pub later : before ≤ now
   pub failed : OnErr result (Rose before now)
+  pub kept : OnOk result (now ≡ before)
 
--- the same of a load: its fault makes the given name the last that failed, and an Ok keeps that name
+-- the same of a load: its fault makes the given name the last that failed, and every other answer leaves the count and that name
 pub record HasLoadCause (before now : ℕ) (last_before last_now name : List ℕ) (result : Result Loaded LoadErr) : Type 0 where
   pub later : before ≤ now
   pub failed : IsErrOf result Failed → Rose before now
   pub named : IsErrOf result Failed → last_now ≡ name
-  pub kept : OnOk result (last_now ≡ last_before)
+  pub kept : ¬ IsErrOf result Failed → now ≡ before
+  pub kept_name : ¬ IsErrOf result Failed → last_now ≡ last_before

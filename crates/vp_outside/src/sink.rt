@@ -10,7 +10,7 @@ pub trait Sink {
     /// The bytes that were written; `None` where the sink does not tell them.
     ghost written: { Self → Option (List ℕ) };
 
-    /// How often it has failed. The count never falls and stays at `u64::MAX`.
+    /// How often it has failed. The count never falls, stays at `u64::MAX`, and an `Ok` leaves it.
     ghost faults: { Self → ℕ };
 
     /// Writes a front of the piece, which is not empty, and answers how many bytes it took, at least one.
@@ -26,7 +26,7 @@ pub trait Sink {
 }
 
 /// Writes the whole piece, in as many writes as the sink needs. After `Failed` a front of the piece
-/// was appended that is not all of it.
+/// was appended that is not all of it. `Ok` means that no write failed.
 pub fn write_all<S: Sink>(sink: &mut S, piece: &[u8]) -> Result<(), Failed>
     ensures ok { OnOk result (Appends (S.written sink.old) (S.written sink.new) piece.now) }
     ensures err { OnErr result (AppendsPart (S.written sink.old) (S.written sink.new) piece.now) }

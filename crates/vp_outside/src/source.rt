@@ -10,7 +10,7 @@ pub trait Source {
     /// The bytes that are left; `None` where the source does not tell them.
     ghost left: { Self → Option (List ℕ) };
 
-    /// How often it has failed. The count never falls and stays at `u64::MAX`.
+    /// How often it has failed. The count never falls, stays at `u64::MAX`, and an `Ok` leaves it.
     ghost faults: { Self → ℕ };
 
     /// Reads into the front of the buffer, which is not empty, and answers how many bytes it gave.

@@ -40,7 +40,7 @@ pub trait Store {
     /// How often it has failed. The count never falls and stays at `u64::MAX`.
     ghost faults: { Self → ℕ };
 
-    /// The name whose load failed last.
+    /// The name whose load failed last: a load that does not answer `Failed` leaves it, and the count.
     ghost failed: { Self → List ℕ };
 
     /// Empties `into` and fills it with the named file, where that has at most `max` bytes.
