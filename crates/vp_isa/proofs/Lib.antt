@@ -1,3 +1,5 @@
 pub mod Bytes
 pub mod Checking
 pub mod Runs
+pub mod Unrefused
+pub mod Work

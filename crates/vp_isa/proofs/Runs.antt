@@ -7,53 +7,53 @@ use Rattle.std.proofs.lemmas.List.{length-take, length-replicate}
 use Rattle.vp_words.specs.declared.record.Kind.{Kind}
 use Rattle.vp_words.specs.declared.record.Kind.TheVariants as kind
 use Rattle.vp_words.specs.declared.record.Due.TheVariants.{Ended}
-use Rattle.vp_words.specs.Record.{field_count, kind_due}
+use Rattle.vp_words.specs.Record.{due_for, field_count, kind_due}
 use Rattle.vp_isa.specs.declared.code.Code.{Code}
 use Rattle.vp_isa.specs.declared.instr.Instr.{Instr}
 use Rattle.vp_isa.specs.declared.instr.Instr.TheVariants.{Const, Copy, Neg, Min, Max, AddD, AddU, MulD, MulU, Jmp, Jge, Jgt, Jeq, Take, Act, Halt}
 use Rattle.vp_isa.specs.Valid.{IsValid, IsFine, TargetFits, is_take, never_falls}
-use Rattle.vp_isa.specs.Machine.{State, cell, written, jump, effect, step, stopped, run, steps_to_stop, answer, due_for, due_of, AreDue, IsStanding, fresh}
+use Rattle.vp_isa.specs.Machine.{MachineState, cell, written, jump, effect, step, stopped, run_to_stop, steps_to_stop, answer, due_of, HasDueCount, IsStanding, fresh}
 use Rattle.vp_isa.specs.Block.{is_plain, are_plain, after, HasAt}
 use Rattle.vp_isa.specs.Runs.{Comes, IsWithin}
 
 -- a stopped machine stays
-pub run_stays : (code : Code) (n : ℕ) (m : State) → stopped code m ≡ true → run code n m ≡ m
+pub run_stays : (code : Code) (n : ℕ) (m : MachineState) → stopped code m ≡ true → run_to_stop code n m ≡ m
 run_stays code zero m h = refl
 run_stays code (suc n) m h = rw h refl
 
-pub steps_none : (code : Code) (n : ℕ) (m : State) → stopped code m ≡ true → steps_to_stop code n m ≡ 0
+pub steps_none : (code : Code) (n : ℕ) (m : MachineState) → stopped code m ≡ true → steps_to_stop code n m ≡ 0
 steps_none code zero m h = refl
 steps_none code (suc n) m h = rw h refl
 
 -- one step of a run
-pub run_step : (code : Code) (n : ℕ) (m : State) → 0 < n → stopped code m ≡ false → run code n m ≡ run code (n - 1) (step code [] m)
+pub run_step : (code : Code) (n : ℕ) (m : MachineState) → 0 < n → stopped code m ≡ false → run_to_stop code n m ≡ run_to_stop code (n - 1) (step code [] m)
 run_step code zero m more h = absurd (omega arith)
-run_step code (suc n) m more h = rw h (ap (λ k. run code k (step code [] m)) (omega arith))
+run_step code (suc n) m more h = rw h (ap (λ k. run_to_stop code k (step code [] m)) (omega arith))
 
-pub steps_step : (code : Code) (n : ℕ) (m : State) → 0 < n → stopped code m ≡ false → steps_to_stop code n m ≡ steps_to_stop code (n - 1) (step code [] m) + 1
+pub steps_step : (code : Code) (n : ℕ) (m : MachineState) → 0 < n → stopped code m ≡ false → steps_to_stop code n m ≡ steps_to_stop code (n - 1) (step code [] m) + 1
 steps_step code zero m more h = absurd (omega arith)
 steps_step code (suc n) m more h = rw h (ap (λ k. steps_to_stop code k (step code [] m) + 1) (omega arith))
 
 -- more steps than lead to a stop change nothing
-pub run_more : (code : Code) (n k : ℕ) (m : State) → stopped code (run code n m) ≡ true → run code (n + k) m ≡ run code n m
-run_more code zero k m h = ap (λ i. run code i m) (omega arith) ∙ run_stays code k m h
+pub run_more : (code : Code) (n k : ℕ) (m : MachineState) → stopped code (run_to_stop code n m) ≡ true → run_to_stop code (n + k) m ≡ run_to_stop code n m
+run_more code zero k m h = ap (λ i. run_to_stop code i m) (omega arith) ∙ run_stays code k m h
 run_more code (suc n) k m h =
     let e : suc n + k ≡ suc (n + k) = omega arith in
-    ap (λ i. run code i m) e ∙ by_stop (stopped code m) h (λ g. run_more code n k (step code [] m) g)
+    ap (λ i. run_to_stop code i m) e ∙ by_stop (stopped code m) h (λ g. run_more code n k (step code [] m) g)
   where
-    by_stop : (b : Bool) → stopped code (cond b m (run code n (step code [] m))) ≡ true
-        → (stopped code (run code n (step code [] m)) ≡ true → run code (n + k) (step code [] m) ≡ run code n (step code [] m))
-        → cond b m (run code (n + k) (step code [] m)) ≡ cond b m (run code n (step code [] m))
+    by_stop : (b : Bool) → stopped code (cond b m (run_to_stop code n (step code [] m))) ≡ true
+        → (stopped code (run_to_stop code n (step code [] m)) ≡ true → run_to_stop code (n + k) (step code [] m) ≡ run_to_stop code n (step code [] m))
+        → cond b m (run_to_stop code (n + k) (step code [] m)) ≡ cond b m (run_to_stop code n (step code [] m))
     by_stop true g more = refl
     by_stop false g more = more g
 
 -- where a step leads: on, to the head, or to an end
-pub record Leads (code : Code) (from : ℕ) (n : State) : Type 0 where
+pub record Leads (code : Code) (from : ℕ) (n : MachineState) : Type 0 where
   pub within : IsWithin code n
   pub moved : (stopped code n ≡ true) ⊎ (from < n.place)
 
 -- to the following place, after an instruction that can be followed
-leads_on : (code : Code) (at : ℕ) (i : Instr) (n : State) → at < length code.instrs → IsFine code at i → never_falls (Some i) ≡ false → n.place ≡ at + 1 → Leads code at n
+leads_on : (code : Code) (at : ℕ) (i : Instr) (n : MachineState) → at < length code.instrs → IsFine code at i → never_falls (Some i) ≡ false → n.place ≡ at + 1 → Leads code at n
 leads_on code at i n lt fine falls e =
     let inside : at + 1 ≡ length code.instrs → ⊥ = λ last. absurd (true_is_false (sym (fine.falls last) ∙ falls)) in
     record { within = λ _. omega (arith, inside); moved = inr (omega arith) }
@@ -62,7 +62,7 @@ leads_on code at i n lt fine falls e =
     true_is_false h = absurd cc
 
 -- to the target of a jump
-leads_to : (code : Code) (at t : ℕ) (n : State) → IsValid code → TargetFits code at t → n.ended ≡ false → n.place ≡ t → Leads code at n
+leads_to : (code : Code) (at t : ℕ) (n : MachineState) → IsValid code → TargetFits code at t → n.ended ≡ false → n.place ≡ t → Leads code at n
 leads_to code at t n v fits on e = record {
   within = λ _. omega (arith, fits.within);
   moved = elim fits.forward [ inl forward ↦ inr (omega arith) | inr back ↦ inl (at_head (e ∙ back)) ];
@@ -71,13 +71,13 @@ leads_to code at t n v fits on e = record {
     at_head : n.place ≡ code.head → stopped code n ≡ true
     at_head h = rw (on, h) v.at_head
 
-leads_if : (code : Code) (i : Instr) (t : ℕ) (test : Bool) (m : State) → IsValid code → IsFine code m.place i → TargetFits code m.place t → never_falls (Some i) ≡ false → m.ended ≡ false → m.place < length code.instrs
+leads_if : (code : Code) (i : Instr) (t : ℕ) (test : Bool) (m : MachineState) → IsValid code → IsFine code m.place i → TargetFits code m.place t → never_falls (Some i) ≡ false → m.ended ≡ false → m.place < length code.instrs
     → Leads code m.place (jump test t m)
 leads_if code i t true m v fine fits falls on lt = leads_to code m.place t (jump true t m) v fits on refl
 leads_if code i t false m v fine fits falls on lt = leads_on code m.place i (jump false t m) lt fine falls refl
 
 -- one instruction of valid code
-pub effect_leads : (code : Code) (i : Instr) (m : State) → IsValid code → IsFine code m.place i → is_take (Some i) ≡ false → m.ended ≡ false → m.place < length code.instrs
+pub effect_leads : (code : Code) (i : Instr) (m : MachineState) → IsValid code → IsFine code m.place i → is_take (Some i) ≡ false → m.ended ≡ false → m.place < length code.instrs
     → Leads code m.place (effect code [] (Some i) m)
 effect_leads code (Const d w) m v fine moving on lt = leads_on code m.place (Const d w) _ lt fine refl refl
 effect_leads code (Copy d a) m v fine moving on lt = leads_on code m.place (Copy d a) _ lt fine refl refl
@@ -97,11 +97,11 @@ effect_leads code (Take kind d) m v fine moving on lt = absurd cc
 effect_leads code (Halt mon) m v fine moving on lt = record { within = λ h. absurd cc; moved = inl refl }
 
 -- what a machine that has not stopped is
-pub record Moves (code : Code) (m : State) : Type 0 where
+pub record Moves (code : Code) (m : MachineState) : Type 0 where
   pub on : m.ended ≡ false
   pub no_take : is_take (slice_get code.instrs m.place) ≡ false
 
-pub moves_from : (code : Code) (m : State) → stopped code m ≡ false → Moves code m
+pub moves_from : (code : Code) (m : MachineState) → stopped code m ≡ false → Moves code m
 moves_from code m h = by_parts m.ended (is_take (slice_get code.instrs m.place)) refl refl h
   where
     by_parts : (a b : Bool) → m.ended ≡ a → is_take (slice_get code.instrs m.place) ≡ b → (a || b) ≡ false → Moves code m
@@ -119,7 +119,7 @@ found [] at lt = absurd (omega arith)
 found (i ∷ is) zero lt = record { instr = i; is_there = refl }
 found (i ∷ is) (suc at) lt = let rest = found is at (omega arith) in record { instr = rest.instr; is_there = rest.is_there }
 
-pub step_leads : (code : Code) (m : State) → IsValid code → IsWithin code m → stopped code m ≡ false → Leads code m.place (step code [] m)
+pub step_leads : (code : Code) (m : MachineState) → IsValid code → IsWithin code m → stopped code m ≡ false → Leads code m.place (step code [] m)
 step_leads code m v within h =
     let moves = moves_from code m h in
     let lt = within moves.on in
@@ -128,7 +128,7 @@ step_leads code m v within h =
     subst (λ o. Leads code m.place (effect code [] o m)) (sym f.is_there) (effect_leads code f.instr m v (v.each m.place f.instr f.is_there) no_take moves.on lt)
 
 -- a machine of valid code stops
-pub stops : (code : Code) (n : ℕ) (m : State) → IsValid code → IsWithin code m → length code.instrs ≤ m.place + n → stopped code (run code n m) ≡ true
+pub stops : (code : Code) (n : ℕ) (m : MachineState) → IsValid code → IsWithin code m → length code.instrs ≤ m.place + n → stopped code (run_to_stop code n m) ≡ true
 stops code zero m v within enough = by_end m.ended refl
   where
     by_end : (b : Bool) → m.ended ≡ b → stopped code m ≡ true
@@ -137,21 +137,21 @@ stops code zero m v within enough = by_end m.ended refl
 stops code (suc n) m v within enough = by_stop (stopped code m) refl (stops code n (step code [] m) v)
   where
     on_from : Leads code m.place (step code [] m)
-        → (IsWithin code (step code [] m) → length code.instrs ≤ (step code [] m).place + n → stopped code (run code n (step code [] m)) ≡ true)
-        → stopped code (run code n (step code [] m)) ≡ true
+        → (IsWithin code (step code [] m) → length code.instrs ≤ (step code [] m).place + n → stopped code (run_to_stop code n (step code [] m)) ≡ true)
+        → stopped code (run_to_stop code n (step code [] m)) ≡ true
     on_from l rest = elim l.moved [
       | inl at_stop ↦ rw (run_stays code n (step code [] m) at_stop) at_stop
       | inr forward ↦ rest l.within (omega (arith, enough, forward))
     ]
 
     by_stop : (b : Bool) → stopped code m ≡ b
-        → (IsWithin code (step code [] m) → length code.instrs ≤ (step code [] m).place + n → stopped code (run code n (step code [] m)) ≡ true)
-        → stopped code (cond (stopped code m) m (run code n (step code [] m))) ≡ true
+        → (IsWithin code (step code [] m) → length code.instrs ≤ (step code [] m).place + n → stopped code (run_to_stop code n (step code [] m)) ≡ true)
+        → stopped code (cond (stopped code m) m (run_to_stop code n (step code [] m))) ≡ true
     by_stop true e rest = rw e e
     by_stop false e rest = rw e (on_from (step_leads code m v within e) rest)
 
 -- in at most as many steps as there are instructions from its place on
-pub steps_bound : (code : Code) (n : ℕ) (m : State) → IsValid code → IsWithin code m → steps_to_stop code n m ≤ length code.instrs - m.place
+pub steps_bound : (code : Code) (n : ℕ) (m : MachineState) → IsValid code → IsWithin code m → steps_to_stop code n m ≤ length code.instrs - m.place
 steps_bound code zero m v within = omega arith
 steps_bound code (suc n) m v within = by_stop (stopped code m) refl (steps_bound code n (step code [] m) v)
   where
@@ -171,28 +171,28 @@ steps_bound code (suc n) m v within = by_stop (stopped code m) refl (steps_bound
 
 -- Runs that compose.
 
-pub no_steps : (code : Code) (m : State) → Comes code m m
-no_steps code m = record { steps = 0; by = λ k. ap (λ n. run code n m) (omega arith) }
+pub no_steps : (code : Code) (m : MachineState) → Comes code m m
+no_steps code m = record { steps = 0; by = λ k. ap (λ n. run_to_stop code n m) (omega arith) }
 
-pub comes_on : (code : Code) (a b c : State) → Comes code a b → Comes code b c → Comes code a c
+pub comes_on : (code : Code) (a b c : MachineState) → Comes code a b → Comes code b c → Comes code a c
 comes_on code a b c f g = record {
   steps = f.steps + g.steps;
   by = λ k. let e : f.steps + g.steps + k ≡ f.steps + (g.steps + k) = omega arith in
-      ap (λ n. run code n a) e ∙ f.by (g.steps + k) ∙ g.by k;
+      ap (λ n. run_to_stop code n a) e ∙ f.by (g.steps + k) ∙ g.by k;
 }
 
-pub one_step : (code : Code) (m : State) → stopped code m ≡ false → Comes code m (step code [] m)
+pub one_step : (code : Code) (m : MachineState) → stopped code m ≡ false → Comes code m (step code [] m)
 one_step code m h = record {
   steps = 1;
   by = λ k. let e : (1 + k) - 1 ≡ k = omega arith in
-      run_step code (1 + k) m (omega arith) h ∙ ap (λ n. run code n (step code [] m)) e;
+      run_step code (1 + k) m (omega arith) h ∙ ap (λ n. run_to_stop code n (step code [] m)) e;
 }
 
 -- a run that comes to a stop gives it
-pub run_settles : (code : Code) (n : ℕ) (a b : State) → stopped code (run code n a) ≡ true → Comes code a b → stopped code b ≡ true → run code n a ≡ b
+pub run_settles : (code : Code) (n : ℕ) (a b : MachineState) → stopped code (run_to_stop code n a) ≡ true → Comes code a b → stopped code b ≡ true → run_to_stop code n a ≡ b
 run_settles code n a b stop c h =
     let e : n + c.steps ≡ c.steps + n = omega arith in
-    sym (run_more code n c.steps a stop) ∙ ap (λ k. run code k a) e ∙ c.by n ∙ run_stays code n b h
+    sym (run_more code n c.steps a stop) ∙ ap (λ k. run_to_stop code k a) e ∙ c.by n ∙ run_stays code n b h
 
 -- Blocks.
 
@@ -234,7 +234,7 @@ plain-append (i ∷ a) b = ap (λ x. is_plain i && x) (plain-append a b) ∙ and
     and_on false y z = refl
 
 -- a plain instruction
-plain_effect : (code : Code) (i : Instr) (m : State) → is_plain i ≡ true → effect code [] (Some i) m ≡ record m { cells = written i m.cells; place = m.place + 1 }
+plain_effect : (code : Code) (i : Instr) (m : MachineState) → is_plain i ≡ true → effect code [] (Some i) m ≡ record m { cells = written i m.cells; place = m.place + 1 }
 plain_effect code (Const d w) m h = refl
 plain_effect code (Copy d x) m h = refl
 plain_effect code (Neg d x) m h = refl
@@ -261,14 +261,14 @@ both_true true b h = (refl, h)
 both_true false b h = absurd cc
 
 -- the machine runs a block
-pub block_runs : (code : Code) (block : List Instr) (m : State) → m.ended ≡ false → HasAt code m.place block → are_plain block ≡ true
+pub block_runs : (code : Code) (block : List Instr) (m : MachineState) → m.ended ≡ false → HasAt code m.place block → are_plain block ≡ true
     → Comes code m (record m { cells = after block m.cells; place = m.place + length block })
 block_runs code [] m on h plain =
     let e : m.place ≡ m.place + 0 = omega arith in
     subst (λ n. Comes code m (record m { place = n })) e (no_steps code m)
 block_runs code (i ∷ is) m on h plain =
     let parts = both_true (is_plain i) (are_plain is) plain in
-    let next : State = record m { cells = written i m.cells; place = m.place + 1 } in
+    let next : MachineState = record m { cells = written i m.cells; place = m.place + 1 } in
     let moving : stopped code m ≡ false = rw on (ap is_take h.0 ∙ plain_no_take i parts.0) in
     let stepped : step code [] m ≡ next = ap (λ o. effect code [] o m) h.0 ∙ plain_effect code i m parts.0 in
     let one : Comes code m next = subst (λ n. Comes code m n) stepped (one_step code m moving) in
@@ -279,12 +279,12 @@ block_runs code (i ∷ is) m on h plain =
 -- Answers.
 
 -- a machine that stands and isn't ended has a TAKE at its place
-pub record AtTake (code : Code) (m : State) : Type 0 where
+pub record AtTake (code : Code) (m : MachineState) : Type 0 where
   pub kind : Kind
   pub d : ℕ
   pub is_there : slice_get code.instrs m.place ≡ Some (Take kind d)
 
-pub at_take : (code : Code) (m : State) → m.ended ≡ false → stopped code m ≡ true → AtTake code m
+pub at_take : (code : Code) (m : MachineState) → m.ended ≡ false → stopped code m ≡ true → AtTake code m
 at_take code m on h = by_instr (slice_get code.instrs m.place) refl
   where
     takes : is_take (slice_get code.instrs m.place) ≡ true
@@ -296,7 +296,7 @@ at_take code m on h = by_instr (slice_get code.instrs m.place) refl
     by_instr (Some i) e = absurd cc
 
 -- after its TAKE a machine of valid code stands in the code, behind its first place
-pub took : (code : Code) (words : List ℤ) (m : State) → IsValid code → IsStanding code m → m.ended ≡ false
+pub took : (code : Code) (words : List ℤ) (m : MachineState) → IsValid code → IsStanding code m → m.ended ≡ false
     → ((step code words m).ended ≡ false) × ((step code words m).place ≡ m.place + 1) × (m.place + 1 < length code.instrs)
 took code words m v s on =
     let t = at_take code m on s.stands in
@@ -307,19 +307,19 @@ took code words m v s on =
     true_is_false : true ≡ false → ⊥
     true_is_false h = absurd cc
 
-took_within : (code : Code) (words : List ℤ) (m : State) → IsValid code → IsStanding code m → m.ended ≡ false → IsWithin code (step code words m)
+pub took_within : (code : Code) (words : List ℤ) (m : MachineState) → IsValid code → IsStanding code m → m.ended ≡ false → IsWithin code (step code words m)
 took_within code words m v s on = let t = took code words m v s on in λ _. omega (arith, t.1, t.2)
 
-pub answer_stops : (code : Code) (words : List ℤ) (m : State) → IsValid code → IsStanding code m → m.ended ≡ false
-    → stopped code (run code (length code.instrs) (step code words m)) ≡ true
+pub answer_stops : (code : Code) (words : List ℤ) (m : MachineState) → IsValid code → IsStanding code m → m.ended ≡ false
+    → stopped code (run_to_stop code (length code.instrs) (step code words m)) ≡ true
 answer_stops code words m v s on = stops code (length code.instrs) (step code words m) v (took_within code words m v s on) (omega arith)
 
 -- the answer is the stop that the machine comes to
-pub run_answers : (code : Code) (words : List ℤ) (m n : State) → IsValid code → IsStanding code m → m.ended ≡ false → Comes code (step code words m) n → stopped code n ≡ true
-    → run code (length code.instrs) (step code words m) ≡ n
+pub run_answers : (code : Code) (words : List ℤ) (m n : MachineState) → IsValid code → IsStanding code m → m.ended ≡ false → Comes code (step code words m) n → stopped code n ≡ true
+    → run_to_stop code (length code.instrs) (step code words m) ≡ n
 run_answers code words m n v s on c h = run_settles code (length code.instrs) (step code words m) n (answer_stops code words m v s on) c h
 
-pub answer_bound : (code : Code) (words : List ℤ) (m : State) → IsValid code → IsStanding code m → m.ended ≡ false → (answer code words m).ran ≤ length code.instrs
+pub answer_bound : (code : Code) (words : List ℤ) (m : MachineState) → IsValid code → IsStanding code m → m.ended ≡ false → (answer code words m).ran ≤ length code.instrs
 answer_bound code words m v s on =
     let t = took code words m v s on in
     omega (arith, steps_bound code (length code.instrs) (step code words m) v (took_within code words m v s on), t.1, t.2)
@@ -344,7 +344,7 @@ written_length (Take kind d) c = refl
 written_length (Act fallback d) c = refl
 written_length (Halt mon) c = refl
 
-effect_length : (code : Code) (o : Option Instr) (m : State) → is_take o ≡ false → length (effect code [] o m).cells ≡ length m.cells
+pub effect_length : (code : Code) (o : Option Instr) (m : MachineState) → is_take o ≡ false → length (effect code [] o m).cells ≡ length m.cells
 effect_length code None m h = refl
 effect_length code (Some (Take kind d)) m h = absurd cc
 effect_length code (Some (Jmp t)) m h = refl
@@ -363,12 +363,12 @@ effect_length code (Some (AddU d a b)) m h = written_length (AddU d a b) m.cells
 effect_length code (Some (MulD d a b)) m h = written_length (MulD d a b) m.cells
 effect_length code (Some (MulU d a b)) m h = written_length (MulU d a b) m.cells
 
-run_length : (code : Code) (n : ℕ) (m : State) → length (run code n m).cells ≡ length m.cells
+run_length : (code : Code) (n : ℕ) (m : MachineState) → length (run_to_stop code n m).cells ≡ length m.cells
 run_length code zero m = refl
 run_length code (suc n) m = by_stop (stopped code m) refl (run_length code n (step code [] m))
   where
-    by_stop : (b : Bool) → stopped code m ≡ b → length (run code n (step code [] m)).cells ≡ length (step code [] m).cells
-        → length (cond (stopped code m) m (run code n (step code [] m))).cells ≡ length m.cells
+    by_stop : (b : Bool) → stopped code m ≡ b → length (run_to_stop code n (step code [] m)).cells ≡ length (step code [] m).cells
+        → length (cond (stopped code m) m (run_to_stop code n (step code [] m))).cells ≡ length m.cells
     by_stop true e rest = rw e refl
     by_stop false e rest = rw e (rest ∙ effect_length code (slice_get code.instrs m.place) m (moves_from code m e).no_take)
 
@@ -376,17 +376,17 @@ spliced_length : (c words : List ℤ) (d : ℕ) → d + length words ≤ length 
 spliced_length c words d h = simp (length-append, length-take, length-drop) (omega arith)
 
 -- the machine within the code, wherever it runs to
-run_within : (code : Code) (n : ℕ) (m : State) → IsValid code → IsWithin code m → IsWithin code (run code n m)
+run_within : (code : Code) (n : ℕ) (m : MachineState) → IsValid code → IsWithin code m → IsWithin code (run_to_stop code n m)
 run_within code zero m v within = within
 run_within code (suc n) m v within = by_stop (stopped code m) refl (run_within code n (step code [] m) v)
   where
-    by_stop : (b : Bool) → stopped code m ≡ b → (IsWithin code (step code [] m) → IsWithin code (run code n (step code [] m)))
-        → IsWithin code (cond (stopped code m) m (run code n (step code [] m)))
+    by_stop : (b : Bool) → stopped code m ≡ b → (IsWithin code (step code [] m) → IsWithin code (run_to_stop code n (step code [] m)))
+        → IsWithin code (cond (stopped code m) m (run_to_stop code n (step code [] m)))
     by_stop true e rest = rw e within
     by_stop false e rest = rw e (rest (step_leads code m v within e).within)
 
 -- how many words the TAKE where a machine stands takes
-pub due_words : (code : Code) (m : State) (words : List ℤ) (k : Kind) (d : ℕ) → m.ended ≡ false → slice_get code.instrs m.place ≡ Some (Take k d) → AreDue code m words
+pub due_words : (code : Code) (m : MachineState) (words : List ℤ) (k : Kind) (d : ℕ) → m.ended ≡ false → slice_get code.instrs m.place ≡ Some (Take k d) → HasDueCount code m words
     → length words ≡ field_count k code.counts
 due_words code m words k d on e due = by_kind k (rw (on, e) at due)
   where
@@ -394,6 +394,15 @@ due_words code m words k d on e due = by_kind k (rw (on, e) at due)
     by_kind kind.Init h = h
     by_kind kind.Choice h = h
     by_kind kind.Sense h = h
+
+-- the TAKE leaves as many cells as there were
+pub took_cells : (code : Code) (words : List ℤ) (m : MachineState) → IsValid code → IsStanding code m → m.ended ≡ false → HasDueCount code m words → length (step code words m).cells ≡ code.cells
+took_cells code words m v s on due =
+    let t = at_take code m on s.stands in
+    let fine = v.each m.place (Take t.kind t.d) t.is_there in
+    let count : length words ≡ field_count t.kind code.counts = due_words code m words t.kind t.d on t.is_there due in
+    let long : length (step code words m).cells ≡ length m.cells = rw t.is_there (spliced_length m.cells words t.d (omega (arith, fine.cells, count, s.cells))) in
+    long ∙ s.cells
 
 pub fresh_stands : (code : Code) → IsValid code → IsStanding code (fresh code)
 fresh_stands code v = record {
@@ -403,21 +412,17 @@ fresh_stands code v = record {
   reply = refl;
 }
 
-pub answer_stands : (code : Code) (words : List ℤ) (m : State) → IsValid code → IsStanding code m → m.ended ≡ false → AreDue code m words → IsStanding code (answer code words m).next
+pub answer_stands : (code : Code) (words : List ℤ) (m : MachineState) → IsValid code → IsStanding code m → m.ended ≡ false → HasDueCount code m words → IsStanding code (answer code words m).next
 answer_stands code words m v s on due =
-    let t = at_take code m on s.stands in
-    let fine = v.each m.place (Take t.kind t.d) t.is_there in
-    let count : length words ≡ field_count t.kind code.counts = due_words code m words t.kind t.d on t.is_there due in
     let first = step code words m in
-    let long : length first.cells ≡ length m.cells = rw t.is_there (spliced_length m.cells words t.d (omega (arith, fine.cells, count, s.cells))) in
     record {
-      cells = run_length code (length code.instrs) first ∙ long ∙ s.cells;
+      cells = run_length code (length code.instrs) first ∙ took_cells code words m v s on due;
       within = run_within code (length code.instrs) first v (took_within code words m v s on);
       stands = answer_stops code words m v s on;
       reply = refl;
     }
 
-pub ended_due : (code : Code) (m : State) → IsStanding code m → (due_of code m ≡ Ended) ↔ (m.ended ≡ true)
+pub ended_due : (code : Code) (m : MachineState) → IsStanding code m → (due_of code m ≡ Ended) ↔ (m.ended ≡ true)
 ended_due code m s = (by_end m.ended refl, λ e. rw e refl)
   where
     no_kind : (k : Kind) → due_for k ≡ Ended → ⊥

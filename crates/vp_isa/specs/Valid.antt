@@ -1,7 +1,7 @@
 -- Which code a machine runs, and the first rule that other code breaks.
 use Rattle.std.specs.Prelude.{ℕ, ◌+◌, ◌-◌, ◌<◌, ◌≤◌, ◌≡◌, ◌⊎◌, ◌==◌, ◌&&◌, max, not, nat_lt, nat_le, Bool, true, false, List, [], ◌∷◌, length, slice_get, Option, None, Some, IfSome, if◌then◌else◌}
 use Rattle.vp_words.specs.declared.record.Counts.{Counts}
-use Rattle.vp_words.specs.Record.{IsValid as AreCounts, field_count, place_count}
+use Rattle.vp_words.specs.Record.{IsValid as AreCounts, field_count, is_valid}
 use Rattle.vp_isa.specs.declared.instr.Instr.{Instr}
 use Rattle.vp_isa.specs.declared.instr.Instr.TheVariants.{Const, Copy, Neg, Min, Max, AddD, AddU, MulD, MulU, Jmp, Jge, Jgt, Jeq, Take, Act, Halt}
 use Rattle.vp_isa.specs.declared.code.Code.{Code}
@@ -71,13 +71,10 @@ pub record IsValid (code : Code) : Type 0 where
 
 -- The first rule that code breaks.
 
-abbrev pub are_counts : Counts → Bool
-are_counts c = nat_le 1 c.states && (nat_le 1 c.controls && nat_le (place_count c) 32)
-
 -- the sizes are within their limits
 abbrev pub size_fits : Code → Bool
 size_fits code =
-    are_counts code.counts && (nat_le 1 (length code.instrs) && (nat_le (length code.instrs) 65536 && (nat_le code.cells 8192 && nat_lt code.head (length code.instrs))))
+    is_valid code.counts && (nat_le 1 (length code.instrs) && (nat_le (length code.instrs) 65536 && (nat_le code.cells 8192 && nat_lt code.head (length code.instrs))))
 
 abbrev pub target_refusal : Code → ℕ → Option ℕ → Option CheckErr
 target_refusal code at None = None

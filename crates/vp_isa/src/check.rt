@@ -1,31 +1,18 @@
 //! The first rule that code breaks.
 ghost use Rattle.std.specs.Prelude.{◌≡◌, ◌≤◌, length};
 ghost use Rattle.vp_words.specs.Record.{IsValid as AreCounts};
-ghost use Rattle.vp_isa.specs.Valid.{are_counts, size_fits, cells_used, refusal_at, first_refusal, refusal};
+ghost use Rattle.vp_isa.specs.Valid.{size_fits, cells_used, refusal_at, first_refusal, refusal};
 
 use crate::code::{CheckErr, Code};
 use crate::instr::Instr;
 use vp_words::{Counts, fields};
-
-fn are_counts_valid(counts: Counts) -> bool
-    ensures { result ≡ are_counts counts }
-{
-    let Counts {
-        params,
-        states,
-        controls,
-    } = counts;
-    states >= 1
-        && controls >= 1
-        && u32::from(params) + 2 * u32::from(states) + 2 * u32::from(controls) + 1 <= 32
-}
 
 /// Whether the sizes are within their limits.
 fn fits_limits(code: &Code) -> bool
     ensures { result ≡ size_fits code.now }
 {
     let count = code.instrs.get().len();
-    are_counts_valid(code.counts)
+    code.counts.is_valid()
         && count >= 1
         && count <= 65_536
         && code.cells <= 8_192

@@ -52,8 +52,8 @@ pub enum Instr {
 impl Instr {
     ghost use Rattle.vp_isa.specs.Valid.{target_of, is_take, never_falls};
 
-    /// The target of a jump.
-    pub(crate) fn target(&self) -> Option<u32>
+    /// The place where it may jump to, if it is a jump.
+    pub fn target(&self) -> Option<u32>
         ensures { result ≡ target_of self.now }
     {
         match *self {

@@ -4,10 +4,9 @@ ghost use Rattle.vp_words.specs.declared.record.Counts.{Counts};
 ghost use Rattle.vp_words.specs.declared.record.Reply.TheVariants.{Ok};
 ghost use Rattle.vp_words.specs.Record.{ActFits, padded};
 ghost use Rattle.vp_isa.specs.Valid.{IsValid, cells_used, is_take};
-ghost use Rattle.vp_isa.specs.Machine.{cell, why_of, written, effect, step, run, steps_to_stop, IsStanding, AreDue};
+ghost use Rattle.vp_isa.specs.Machine.{cell, why_of, written, effect, step, run_to_stop, steps_to_stop, IsStanding, HasDueCount};
 ghost use Rattle.vp_vm.specs.Parts.{state};
 
-use crate::compare;
 use crate::steps::Steps;
 use std::sync::ledger::Ledger;
 use vp_isa::{Code, Instr, Mon};
@@ -15,7 +14,7 @@ use vp_words::{Reply, Why, Word};
 
 /// Where the machine stands, and whether a HALT was executed.
 #[derive(Clone, Copy, Debug)]
-pub(crate) struct Standing {
+pub(crate) struct Position {
     pub(crate) place: usize,
     pub(crate) ended: bool,
 }
@@ -55,17 +54,17 @@ fn put(cells: &mut [Word], place: u16, word: Word)
     cells[usize::from(place)] = word;
 }
 
-fn stands_at(place: usize) -> Standing
+fn stands_at(place: usize) -> Position
     ensures { result ≡ record { place = place; ended = false } }
 {
-    Standing {
+    Position {
         place,
         ended: false,
     }
 }
 
 /// Where a jump leads: to `t` where its test holds, else to the following place.
-fn goes_to(test: bool, t: u32, place: usize) -> Standing
+fn goes_to(test: bool, t: u32, place: usize) -> Position
     requires { place < 65536 }
     ensures { result ≡ record { place = if test then t else place + 1; ended = false } }
 {
@@ -98,7 +97,7 @@ fn execute(
     cells: &mut [Word],
     place: usize,
     reply: &mut Reply,
-) -> Standing
+) -> Position
     requires fits { cells_used code.now.counts instr ≤ length cells.old }
     requires no_take { is_take (Some instr) ≡ false }
     requires controls { code.now.counts.controls ≤ 16 }
@@ -109,9 +108,9 @@ fn execute(
 {
     match instr {
         Instr::Jmp { t } => stands_at(t as usize),
-        Instr::Jge { a, b, t } => goes_to(compare::ge(at(cells, a), at(cells, b)), t, place),
-        Instr::Jgt { a, b, t } => goes_to(compare::gt(at(cells, a), at(cells, b)), t, place),
-        Instr::Jeq { a, b, t } => goes_to(compare::same(at(cells, a), at(cells, b)), t, place),
+        Instr::Jge { a, b, t } => goes_to(vp_words::ge(at(cells, a), at(cells, b)), t, place),
+        Instr::Jgt { a, b, t } => goes_to(vp_words::gt(at(cells, a), at(cells, b)), t, place),
+        Instr::Jeq { a, b, t } => goes_to(vp_words::same(at(cells, a), at(cells, b)), t, place),
         Instr::Act { fallback, d } => {
             let len = code.counts.controls;
             *reply = Reply::Act {
@@ -123,7 +122,7 @@ fn execute(
         }
         Instr::Halt { mon } => {
             *reply = Reply::Violation(why(mon));
-            Standing {
+            Position {
                 place: place + 1,
                 ended: true,
             }
@@ -145,7 +144,7 @@ pub(crate) fn instr_at(code: &Code, place: usize) -> Instr
 }
 
 /// Whether the machine stands at a TAKE or is ended.
-fn has_stopped(code: &Code, at: Standing) -> bool
+fn has_stopped(code: &Code, at: Position) -> bool
     requires { at.ended ≡ false → at.place < length code.now.instrs }
     ensures { result ≡ (at.ended || is_take (slice_get code.now.instrs at.place)) }
 {
@@ -159,7 +158,7 @@ fn advance<L: Ledger>(
     place: usize,
     reply: &mut Reply,
     steps: &mut Steps<L>,
-) -> Standing
+) -> Position
     requires valid { IsValid code.now }
     requires cells { length cells.old ≡ code.now.cells }
     requires within { place < length code.now.instrs }
@@ -182,13 +181,13 @@ pub(crate) fn run_to_stop<L: Ledger>(
     start: usize,
     reply: &mut Reply,
     steps: &mut Steps<L>,
-) -> (Standing, u32)
+) -> (Position, u32)
     requires valid { IsValid code.now }
     requires cells { length cells.old ≡ code.now.cells }
     requires start { start < length code.now.instrs }
     requires act { ActFits reply.old }
     ensures act { ActFits reply.new }
-    ensures state { run code.now (length code.now.instrs) (state cells.old (record { place = start; ended = false }) reply.old) ≡ state cells.new result.0 reply.new }
+    ensures state { run_to_stop code.now (length code.now.instrs) (state cells.old (record { place = start; ended = false }) reply.old) ≡ state cells.new result.0 reply.new }
     ensures ran { steps_to_stop code.now (length code.now.instrs) (state cells.old (record { place = start; ended = false }) reply.old) ≡ result.1 }
     ensures few { result.1 ≤ 65536 }
     ensures steps { steps.new ≡ steps.old + result.1 }
@@ -212,7 +211,7 @@ pub(crate) fn take_words<L: Ledger>(
 ) -> usize
     requires valid { IsValid code.now }
     requires standing { IsStanding code.now (state cells.old (record { place = place; ended = false }) Ok) }
-    requires words { AreDue code.now (state cells.old (record { place = place; ended = false }) Ok) words.now }
+    requires words { HasDueCount code.now (state cells.old (record { place = place; ended = false }) Ok) words.now }
     ensures state { step code.now words.now (state cells.old (record { place = place; ended = false }) Ok) ≡ state cells.new (record { place = result; ended = false }) Ok }
     ensures within { result < length code.now.instrs }
     ensures cells { length cells.new ≡ code.now.cells }

@@ -1,7 +1,6 @@
 //! The word machine: it executes checked code, record by record (`docs/machine.md`).
 #![tactic(auto)]
 
-mod compare;
 mod execute;
 mod machine;
 mod steps;

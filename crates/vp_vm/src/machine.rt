@@ -4,15 +4,15 @@ ghost use Rattle.vp_words.specs.declared.record.Turn.TheVariants.{Answered, Ende
 ghost use Rattle.vp_words.specs.declared.record.Due.TheVariants.{Ended as NoneDue};
 ghost use Rattle.vp_words.specs.Record.{ActFits, IsValid as AreCounts};
 ghost use Rattle.vp_isa.specs.Valid.{IsValid};
-ghost use Rattle.vp_isa.specs.Machine.{fresh, due_for, due_of, answer, AreDue, IsStanding};
+ghost use Rattle.vp_isa.specs.Machine.{fresh, due_of, answer, HasDueCount, IsStanding};
 
-use crate::execute::{Standing, instr_at, run_to_stop, take_words};
+use crate::execute::{Position, instr_at, run_to_stop, take_words};
 use crate::steps::Steps;
 use std::alloc::{AllocError, Global};
 use std::marker::Model;
 use std::sync::ledger::Ledger;
 use vp_isa::{Checked, Code, Instr};
-use vp_words::{Counts, Due, Kind, Reply, Turn, Word};
+use vp_words::{Counts, Due, Reply, Turn, Word};
 
 /// The reply to a record, and how many instructions were executed for it.
 #[derive(Clone, Copy, Debug, PartialEq, Eq)]
@@ -26,7 +26,7 @@ pub struct VmReply {
 pub struct Machine {
     code: Checked,
     cells: Vec<Word>,
-    at: Standing,
+    at: Position,
 }
 
 impl Model for Machine {
@@ -42,16 +42,6 @@ impl Model for Machine {
     ghost invariant = { λ m. IsValid m.code × IsStanding m.code (state m.cells.items m.at Ok) };
 }
 
-fn due_of_kind(kind: Kind) -> Due
-    ensures { result ≡ due_for kind }
-{
-    match kind {
-        Kind::Init => Due::Init,
-        Kind::Choice => Due::Choice,
-        Kind::Sense => Due::Sense,
-    }
-}
-
 impl Machine {
     /// A machine at its first instruction, with zeros in its cells. It takes all the memory that it
     /// ever uses.
@@ -61,7 +51,7 @@ impl Machine {
         let count = code.code().cells as usize;
         Ok(Machine {
             cells: vec![in alloc; Word::ZERO; count]?,
-            at: Standing {
+            at: Position {
                 place: 0,
                 ended: false,
             },
@@ -94,7 +84,7 @@ impl Machine {
             return Due::Ended;
         }
         match instr_at(self.code.code(), self.at.place) {
-            Instr::Take { kind, .. } => due_of_kind(kind),
+            Instr::Take { kind, .. } => kind.due(),
             _ => unreachable!(),
         }
     }
@@ -108,7 +98,7 @@ impl Machine {
         out: &mut VmReply,
         steps: &mut Steps<L>,
     ) -> Turn
-        requires { AreDue self.old.code self.old.state words.now }
+        requires { HasDueCount self.old.code self.old.state words.now }
         ensures ended { (result ≡ Ended) ↔ (due_of self.old.code self.old.state ≡ NoneDue) }
         ensures same { result ≡ Ended → (self.new ≡ self.old) × (out.new ≡ out.old) × (steps.new ≡ steps.old) }
         ensures answer { result ≡ Answered → answer self.old.code words.now self.old.state ≡ record { reply = out.new.reply; next = self.new.state; ran = out.new.ran } }

@@ -1,5 +1,5 @@
 ghost use Rattle.std.specs.Prelude.{◌≡◌, ◌<◌, true};
-ghost use Rattle.vp_isa.specs.Machine.{AreDue};
+ghost use Rattle.vp_isa.specs.Machine.{HasDueCount};
 
 use crate::{Machine, Steps, VmReply};
 use std::alloc::Global;
@@ -31,7 +31,7 @@ fn machine(alloc: Global, cells: u32, head: u32, instrs: &[Instr]) -> Result<Mac
 
 /// Whether there are as many words as the due record has.
 fn are_due(machine: &Machine, words: &[Word]) -> bool
-    ensures { result ≡ true → AreDue machine.now.code machine.now.state words.now }
+    ensures { result ≡ true → HasDueCount machine.now.code machine.now.state words.now }
 {
     let counts = machine.counts();
     match machine.due() {

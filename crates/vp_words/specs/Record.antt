@@ -1,5 +1,5 @@
 -- Records of words, what is due, and how many words a record has.
-use Rattle.std.specs.Prelude.{◌≡◌, ℕ, zero, suc, ◌+◌, ◌-◌, ◌*◌, ◌≤◌, ◌++◌, ◌∷◌, [], ℤ, pos, List, length, replicate, take, Option, None, Some, Bool, false, ◌&&◌, nat_le, IsTrue}
+use Rattle.std.specs.Prelude.{◌≡◌, ℕ, zero, suc, ◌+◌, ◌-◌, ◌*◌, ◌≤◌, ◌++◌, ◌∷◌, [], ℤ, pos, List, length, replicate, take, Option, None, Some, Bool, true, false, ◌&&◌, nat_le, IsTrue}
 use Rattle.vp_words.specs.declared.record.Kind.{Kind}
 use Rattle.vp_words.specs.declared.record.Kind.TheVariants.{Init, Choice, Sense}
 use Rattle.vp_words.specs.declared.record.Due.{Due}
@@ -69,6 +69,12 @@ abbrev pub ActFits : Reply → Type 0
 ActFits reply.Ok = Unit {0}
 ActFits (reply.Act words len fallback) = len ≤ 16
 ActFits (reply.Violation why) = Unit {0}
+
+-- a reply that ends the run
+abbrev pub is_violation : Reply → Bool
+is_violation reply.Ok = false
+is_violation (reply.Act words len fallback) = false
+is_violation (reply.Violation why) = true
 
 -- a valid record: as many words as its kind has, zeros behind them, each pair valid and each control finite
 pub record IsRecord (c : Counts) (r : Record) : Type 0 where

@@ -2,4 +2,8 @@ use Rattle.vp_isa.proofs.Runs.{fresh_stands, answer_stands, ended_due}
 use Rattle.vp_isa.proofs.laws.machine_stands.Goals as goal
 
 pub returns : goal.returns
-returns c = record { new = fresh_stands; next = answer_stands; ended = ended_due }
+returns c = record {
+  new = fresh_stands;
+  next = λ code words m ready. answer_stands code words m ready.valid ready.stands ready.going;
+  ended = ended_due;
+}

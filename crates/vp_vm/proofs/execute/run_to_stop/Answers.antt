@@ -1,5 +1,5 @@
 use Rattle.std.proofs.Common.{◌≡◌, ◌-◌, ◌+◌, ◌<◌, ◌≤◌, true, false, length, [], ap, sym, subst, ◌∙◌, inl, inr, arith}
-use Rattle.vp_isa.specs.Machine.{State, run, steps_to_stop, step, stopped}
+use Rattle.vp_isa.specs.Machine.{MachineState, run_to_stop, steps_to_stop, step, stopped}
 use Rattle.vp_isa.specs.Runs.{IsWithin}
 use Rattle.vp_isa.proofs.Runs.{moves_from, step_leads, run_step, steps_step}
 use Rattle.vp_vm.specs.Parts.{state}
@@ -9,8 +9,8 @@ pub steps-preserved : goal.steps-preserved
 steps-preserved g c =
     let code = c.args.code.now in
     let len = length c.args.code.now.instrs in
-    let now : State = state c.steps.cells c.steps.at c.steps.reply in
-    let then : State = state c.advance-at.new.cells c.advance-at.result c.advance-at.new.reply in
+    let now : MachineState = state c.steps.cells c.steps.at c.steps.reply in
+    let then : MachineState = state c.advance-at.new.cells c.advance-at.result c.advance-at.new.reply in
     let moving : stopped code now ≡ false = sym c.has_stopped.ensures ∙ c.steps-test.true in
     let on : c.steps.at.ended ≡ false = (moves_from code now moving).on in
     let place : c.steps.at.place < len = c.steps.invariant.within on in
@@ -28,9 +28,9 @@ steps-preserved g c =
       cells = c.advance-at.auto.cells ∙ c.steps.invariant.cells;
       act = c.advance-at.ensures.act;
       within = subst (λ n. IsWithin code n) stepped leads.within;
-      behind = elim leads.moved [ inl stop ↦ inl (subst (λ n. stopped code n ≡ true) stepped stop) | inr forward ↦ inr (omega (arith, behind, ap (λ (s : State). s.place) stepped)) ];
+      behind = elim leads.moved [ inl stop ↦ inl (subst (λ n. stopped code n ≡ true) stepped stop) | inr forward ↦ inr (omega (arith, behind, ap (λ (s : MachineState). s.place) stepped)) ];
       few = omega (arith, place, behind);
-      runs = ap (λ n. run code n then) fewer ∙ ap (run code ((len - c.steps.ran) - 1)) (sym stepped)
+      runs = ap (λ n. run_to_stop code n then) fewer ∙ ap (run_to_stop code ((len - c.steps.ran) - 1)) (sym stepped)
           ∙ sym (run_step code (len - c.steps.ran) now more moving) ∙ c.steps.invariant.runs;
       count = omega (arith, count, c.steps.invariant.count);
       ledger = omega (arith, c.advance-at.ensures.steps, c.steps.invariant.ledger);

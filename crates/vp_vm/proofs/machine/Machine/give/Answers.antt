@@ -2,7 +2,7 @@ use Rattle.std.proofs.Common.{◌≡◌, ◌+◌, ◌≤◌, List, false, length
 use Rattle.std.specs.Prelude.{ℤ}
 use Rattle.vp_words.specs.declared.record.Reply.TheVariants.{Ok}
 use Rattle.vp_isa.specs.declared.code.Code.{Code}
-use Rattle.vp_isa.specs.Machine.{Running, AreDue, IsStanding, step, run, steps_to_stop}
+use Rattle.vp_isa.specs.Machine.{Running, HasDueCount, IsStanding, step, run_to_stop, steps_to_stop}
 use Rattle.vp_vm.specs.Parts.{state}
 use Rattle.vp_vm.proofs.Turns.{turn_stands, turn_bound, all_cells}
 use Rattle.vp_vm.proofs.machine.Machine.give.Given.{Over}
@@ -24,9 +24,9 @@ taken g c =
 
 pub invariant_of-self : goal.invariant_of-self
 invariant_of-self g c =
-    let due : AreDue c.self.inside.code (state c.self.inside.cells.items c.self.inside.at Ok) c.args.words.now =
-    subst (λ (r : Running). AreDue r.code r.state c.args.words.now) (sym c.self.view_is) c.requires in
-    let ran = subst (λ (k : Code). run k (length k.instrs) (state c.deref_mut-2.result.now (record { place = c.take_words-start.result; ended = false }) Ok) ≡ state c.run_to_stop-ran.new.cells c.run_to_stop-ran.result.0 c.run_to_stop-ran.new.reply) c.code-code.ensures.code c.run_to_stop-ran.ensures.state in
+    let due : HasDueCount c.self.inside.code (state c.self.inside.cells.items c.self.inside.at Ok) c.args.words.now =
+    subst (λ (r : Running). HasDueCount r.code r.state c.args.words.now) (sym c.self.view_is) c.requires in
+    let ran = subst (λ (k : Code). run_to_stop k (length k.instrs) (state c.deref_mut-2.result.now (record { place = c.take_words-start.result; ended = false }) Ok) ≡ state c.run_to_stop-ran.new.cells c.run_to_stop-ran.result.0 c.run_to_stop-ran.new.reply) c.code-code.ensures.code c.run_to_stop-ran.ensures.state in
     let stands = turn_stands c.self.inside.code c.args.words.now _ _ _ c.self.invariant.0 c.self.invariant.1 c.if-self.false due (taken g c) ran in
     let whole = all_cells c.self.inside.cells.len c.run_to_stop-ran.new.cells _ (c.run_to_stop-ran.auto.cells ∙ c.deref_mut-2.ensures.len) in
     (c.self.invariant.0, subst (λ (cells : List ℤ). IsStanding c.self.inside.code (state cells c.run_to_stop-ran.result.0 Ok)) (sym whole) stands)
