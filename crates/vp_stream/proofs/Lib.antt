@@ -1,5 +1,8 @@
+pub mod Agreeing
+pub mod Answered
 pub mod Fields
 pub mod Growth
+pub mod LineRecords
 pub mod OneLine
 pub mod Pairs
 pub mod RunLaws

@@ -20,7 +20,7 @@ all_finite k (word ∷ words) h =
     rw first.0 (all_finite (k + 1) words first.1)
 
 -- where no field is empty the words are valid
-none_empty : (pairs k : ℕ) (words : List ℤ) → 2 * pairs ≤ length words → first_empty pairs k words ≡ None → pairs_then_finite pairs words ≡ true
+pub none_empty : (pairs k : ℕ) (words : List ℤ) → 2 * pairs ≤ length words → first_empty pairs k words ≡ None → pairs_then_finite pairs words ≡ true
 none_empty zero k words long h = all_finite k words h
 none_empty (suc pairs) k [] long h = absurd (omega arith)
 none_empty (suc pairs) k (low ∷ []) long h = absurd (omega arith)

@@ -11,5 +11,5 @@ mod verdict;
 
 pub use line::{content, is_skipped};
 pub use record::{LineErr, read_record};
-pub use reply::write_reply;
-pub use verdict::Verdict;
+pub use reply::{write_bad_line, write_end_line, write_reply};
+pub use verdict::{Ending, Verdict};

@@ -1,5 +1,6 @@
 //! Lines as records.
 ghost use Rattle.std.specs.Prelude.{◌≡◌, ◌+◌, ◌*◌, ◌≤◌, ◌<◌, ◌^◌, Err, IfErr, Ok, OnErr, OnOk, MatchResult, length, take};
+ghost use Rattle.vp_words.specs.Exchanges.{IsRecordOf};
 ghost use Rattle.vp_words.specs.Record.{IsRecord, IsValid};
 ghost use Rattle.vp_words.specs.Text.{spelled};
 ghost use Rattle.vp_stream.specs.Lines.{fields_of};
@@ -119,6 +120,7 @@ pub fn read_record(line: &[u8], due: Kind, counts: Counts, out: &mut Record) -> 
     ensures ok { OnOk result (reading due counts line.now ≡ Ok (take out.new.len out.new.words)) }
     ensures kind { OnOk result (out.new.kind ≡ due) }
     ensures valid { OnOk result (IsRecord counts out.new) }
+    ensures words { OnOk result (IsRecordOf counts due (take out.new.len out.new.words)) }
     ensures room { OnOk result (out.new.len ≤ 64) }
     ensures err { IfErr result (λ e. reading due counts line.now ≡ Err e) }
     ensures kept { OnErr result (out.new ≡ out.old) }

@@ -1,7 +1,8 @@
 //! Replies as lines.
-ghost use Rattle.std.specs.Prelude.{◌≡◌, ◌+◌, ◌*◌, ◌≤◌, ◌++◌, length, take, decimal};
+ghost use Rattle.std.specs.Prelude.{◌≡◌, ◌+◌, ◌*◌, ◌≤◌, ◌++◌, codes, length, take, decimal};
 ghost use Rattle.std.specs.List.{flat_map};
 ghost use Rattle.vp_words.specs.Record.{ActFits};
+ghost use Rattle.vp_stream.specs.Run.{bad_line, end_line};
 ghost use Rattle.vp_stream.specs.Printing.{reply_line, source_text, spaced_word, truth_text, violation_line};
 
 use itoa::Buffer;
@@ -101,4 +102,36 @@ pub fn write_reply(reply: &Reply, out: &mut [u8; 1024]) -> usize
         }
         Reply::Violation(why) => write_violation(out, why),
     }
+}
+
+/// Writes words and a number as a line, and says how many bytes it has.
+fn write_count(out: &mut [u8; 1024], words: &[u8], count: u64) -> usize
+    requires { length words.now ≤ 100 }
+    ensures end { result ≡ length (words.now ++ decimal count ++ codes "\n") }
+    ensures room { result ≤ 349 }
+    ensures text { take result out.new ≡ words.now ++ decimal count ++ codes "\n" }
+{
+    let at = append(out, 0, words);
+    let at = append(out, at, Buffer::new().format(count).as_bytes());
+    append(out, at, b"\n")
+}
+
+/// Writes the line that says that line number `line`, from 1, is bad, with its LF at the front of `out`, and
+/// says how many bytes it has. It takes no memory.
+pub fn write_bad_line(line: u64, out: &mut [u8; 1024]) -> usize
+    ensures end { result ≡ length (bad_line line) }
+    ensures room { result ≤ 349 }
+    ensures text { take result out.new ≡ bad_line line }
+{
+    write_count(out, b"bad line ", line)
+}
+
+/// Writes the line of the end of an input after so many rounds, with its LF at the front of `out`, and says
+/// how many bytes it has. It takes no memory.
+pub fn write_end_line(rounds: u64, out: &mut [u8; 1024]) -> usize
+    ensures end { result ≡ length (end_line rounds) }
+    ensures room { result ≤ 349 }
+    ensures text { take result out.new ≡ end_line rounds }
+{
+    write_count(out, b"end ", rounds)
 }
