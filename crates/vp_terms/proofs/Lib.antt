@@ -1,4 +1,5 @@
 pub mod Agreeing
+pub mod Claims
 pub mod Evaluating
 pub mod Gaps
 pub mod Lowest
@@ -11,11 +12,14 @@ pub mod Reading
 pub mod Reduced
 pub mod Results
 pub mod Runs
+pub mod SameModels
 pub mod Sizes
 pub mod Spots
 pub mod Standing
 pub mod Tens
 pub mod Tokens
+pub mod Trees
 pub mod Unique
+pub mod Variables
 pub mod Weights
 pub mod Written

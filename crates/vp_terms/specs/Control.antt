@@ -1,5 +1,5 @@
--- Which control values a program leads to, and the runs of a model.
-use Rattle.std.specs.Prelude.{ℕ, ◌≢◌, ◌⊎◌, IsTrue, pos}
+-- Which control values a program leads to.
+use Rattle.std.specs.Prelude.{ℕ, ◌<◌, ◌≢◌, ◌⊎◌, IsTrue, pos}
 use Rattle.vp_terms.specs.Rational.{Rational, whole, Equals}
 use Rattle.vp_terms.specs.Meaning.{Assignment, value, holds}
 use Rattle.vp_terms.specs.declared.expr.Var.TheVariants.{Param, State, Control, NextState, NextControl, Tau}
@@ -26,6 +26,10 @@ pub record Same (u v : Values) : Type 0 where
 -- the same values, but for that of c
 pub record SameBut (c : ℕ) (u v : Values) : Type 0 where
   pub others : (k : ℕ) → k ≢ c → Equals (u k) (v k)
+
+-- the same values for the numbers below n
+abbrev pub AgreeBelow : ℕ → Values → Values → Type 0
+AgreeBelow n u v = (k : ℕ) → k < n → Equals (u k) (v k)
 
 -- v is u with the value q for c
 pub record Sets (c : ℕ) (q : Rational) (u v : Values) : Type 0 where

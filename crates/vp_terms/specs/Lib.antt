@@ -3,9 +3,12 @@ pub mod Control
 pub mod Evaluation
 pub mod Lowest
 pub mod Meaning
+pub mod Model
 pub mod Number
 pub mod Order
+pub mod Packages
 pub mod Places
+pub mod Plant
 pub mod Rational
 pub mod Ratios
 pub mod Running

@@ -1,14 +1,18 @@
-//! Laws of rationals: the contracts of these functions say them, and their bodies do nothing.
-ghost use Rattle.std.specs.Prelude.{◌≡◌, ◌⊎◌, ℕ, ◌+◌, ◌<◌, ◌≤◌, pos, IsTrue, List, Some};
+//! Laws of rationals, texts, variables, trees and models: the contracts of these functions say them, and their bodies do nothing.
+ghost use Rattle.std.specs.Prelude.{◌≡◌, ◌⊎◌, ℕ, ◌+◌, ◌<◌, ◌≤◌, pos, Bool, IsTrue, List, Some};
 ghost use Rattle.vp_terms.specs.Rational.{Rational, Equals, whole, sum, difference, product, power};
-ghost use Rattle.vp_terms.specs.Meaning.{rational, compares};
-ghost use Rattle.vp_terms.specs.Control.{Values, Same, SameBut, Ctrl};
+ghost use Rattle.vp_terms.specs.Meaning.{Assignment, rational, value, compares, holds};
+ghost use Rattle.vp_terms.specs.Control.{Values, Same, SameBut, Ctrl, AgreeBelow};
+ghost use Rattle.vp_terms.specs.Model.{Claim, IsInductive, model_of};
+ghost use Rattle.vp_terms.specs.Packages.{package_tree};
+ghost use Rattle.vp_terms.specs.Plant.{Flow, PlantStep};
+ghost use Rattle.vp_terms.specs.Tree.{expr_tree, formula_tree, prog_tree};
 ghost use Rattle.vp_terms.specs.Running.{may_change};
 ghost use Rattle.vp_terms.specs.Number.{Writes, is_read, number};
 ghost use Rattle.vp_terms.specs.Ratios.{IsNumber};
 ghost use Rattle.vp_terms.specs.Places.{place, place_count, has_variable};
-ghost use Rattle.vp_terms.specs.Variables.{has_places_below, formula_has_places_below};
-ghost use Rattle.vp_terms.specs.WellFormed.{is_good_expr, is_good_formula};
+ghost use Rattle.vp_terms.specs.Variables.{all_variables, all_variables_of, has_places_below, formula_has_places_below};
+ghost use Rattle.vp_terms.specs.WellFormed.{is_allowed, is_good_expr, is_good_formula, is_good_prog};
 ghost use Rattle.vp_terms.specs.declared.well_formed.Kinds.{Kinds};
 ghost use Rattle.vp_terms.specs.declared.expr.Places.{Places};
 ghost use Rattle.vp_terms.specs.declared.expr.Var.{Var};
@@ -16,6 +20,7 @@ ghost use Rattle.vp_terms.specs.declared.ratio.Ratio.{Ratio};
 ghost use Rattle.vp_terms.specs.declared.expr.Expr.{Expr};
 ghost use Rattle.vp_terms.specs.declared.formula.Formula.{Formula};
 ghost use Rattle.vp_terms.specs.declared.prog.Prog.{Prog};
+ghost use Rattle.vp_terms.specs.declared.package.Package.{Package};
 ghost use Rattle.vp_terms.specs.declared.formula.Cmp.{Cmp};
 ghost use Rattle.vp_terms.specs.declared.formula.Cmp.TheVariants.{Le, Lt};
 
@@ -112,4 +117,44 @@ pub fn variables_have_places()
         IsTrue (has_places_below p (place_count p) e) }
     ensures formulas { (k : Kinds) (p : Places) (f : Formula) → IsTrue (is_good_formula k p f) →
         IsTrue (formula_has_places_below p (place_count p) f) }
+{}
+
+/// What an expression, a formula or a program means depends on the variables that it has: on those
+/// that pass a test, where all of its variables do.
+pub fn meaning_depends_on_variables()
+    ensures values { (t : Var → Bool) (e : Expr) (a b : Assignment) → IsTrue (all_variables t e) →
+        ((v : Var) → IsTrue (t v) → Equals (a v) (b v)) → Equals (value e a) (value e b) }
+    ensures truth { (t : Var → Bool) (f : Formula) (a b : Assignment) → IsTrue (all_variables_of t f) →
+        ((v : Var) → IsTrue (t v) → Equals (a v) (b v)) → holds f a ≡ holds f b }
+    ensures programs { (places : Places) (prog : Prog) (p p' x x' u v : Values) →
+        IsTrue (is_good_prog places prog) → AgreeBelow places.params p p' → AgreeBelow places.states x x' →
+        Ctrl prog p x u v → Ctrl prog p' x' u v }
+{}
+
+/// A well formed expression or formula has only variables that may stand there, and these are the
+/// model's.
+pub fn well_formed_parts_have_allowed_variables()
+    ensures expressions { (k : Kinds) (p : Places) (e : Expr) → IsTrue (is_good_expr k p e) →
+        IsTrue (all_variables (is_allowed k p) e) }
+    ensures formulas { (k : Kinds) (p : Places) (f : Formula) → IsTrue (is_good_formula k p f) →
+        IsTrue (all_variables_of (is_allowed k p) f) }
+    ensures allowed { (k : Kinds) (p : Places) (v : Var) → IsTrue (is_allowed k p v) → IsTrue (has_variable p v) }
+{}
+
+/// Expressions, formulas, programs and packages that differ in their boxes alone mean the same.
+pub fn equal_trees_mean_the_same()
+    ensures values { (e f : Expr) → expr_tree e ≡ expr_tree f → (a : Assignment) → value e a ≡ value f a }
+    ensures truth { (f g : Formula) → formula_tree f ≡ formula_tree g → (a : Assignment) → holds f a ≡ holds g a }
+    ensures programs { (a b : Prog) → prog_tree a ≡ prog_tree b → (p x u v : Values) → Ctrl a p x u v →
+        Ctrl b p x u v }
+    ensures plants { (flow : Flow) (pkg other : Package) → package_tree pkg ≡ package_tree other →
+        (p x u : Values) (t : Rational) (y : Values) → PlantStep flow pkg.plant p x u t y →
+        PlantStep flow other.plant p x u t y }
+    ensures inductive { (flow : Flow) (pkg other : Package) → package_tree pkg ≡ package_tree other →
+        IsInductive (model_of flow pkg) → IsInductive (model_of flow other) }
+{}
+
+/// Where the invariant is inductive, each sampled run is safe at its start and behind each round.
+pub fn inductive_models_keep_their_claim()
+    ensures { (flow : Flow) (pkg : Package) → IsInductive (model_of flow pkg) → Claim (model_of flow pkg) }
 {}
