@@ -5,6 +5,7 @@ pub mod Growth
 pub mod LineRecords
 pub mod OneLine
 pub mod Pairs
+pub mod Pieces
 pub mod RunLaws
 pub mod Telling
 pub mod Valid
