@@ -5,7 +5,7 @@ ghost use Rattle.vp_words.specs.declared.record.Reply.TheVariants.{Ok};
 ghost use Rattle.vp_words.specs.Record.{ActFits, padded};
 ghost use Rattle.vp_isa.specs.Valid.{IsValid, cells_used, is_take};
 ghost use Rattle.vp_isa.specs.Machine.{cell, why_of, written, effect, step, run_to_stop, steps_to_stop, IsStanding, HasDueCount};
-ghost use Rattle.vp_vm.specs.Parts.{state};
+ghost use Rattle.vp_vm.specs.Parts.{going, state};
 
 use crate::steps::Steps;
 use std::sync::ledger::Ledger;
@@ -104,7 +104,7 @@ fn execute(
     requires place { place < 65536 }
     requires act { ActFits reply.old }
     ensures act { ActFits reply.new }
-    ensures state { effect code.now [] (Some instr) (state cells.old (record { place = place; ended = false }) reply.old) ≡ state cells.new result reply.new }
+    ensures state { effect code.now [] (Some instr) (going cells.old place reply.old) ≡ state cells.new result reply.new }
 {
     match instr {
         Instr::Jmp { t } => stands_at(t as usize),
@@ -165,7 +165,7 @@ fn advance<L: Ledger>(
     requires moving { is_take (slice_get code.now.instrs place) ≡ false }
     requires act { ActFits reply.old }
     ensures act { ActFits reply.new }
-    ensures state { step code.now [] (state cells.old (record { place = place; ended = false }) reply.old) ≡ state cells.new result reply.new }
+    ensures state { step code.now [] (going cells.old place reply.old) ≡ state cells.new result reply.new }
     ensures steps { steps.new ≡ steps.old + 1 }
 {
     let instr = instr_at(code, place);
@@ -187,8 +187,8 @@ pub(crate) fn run_to_stop<L: Ledger>(
     requires start { start < length code.now.instrs }
     requires act { ActFits reply.old }
     ensures act { ActFits reply.new }
-    ensures state { run_to_stop code.now (length code.now.instrs) (state cells.old (record { place = start; ended = false }) reply.old) ≡ state cells.new result.0 reply.new }
-    ensures ran { steps_to_stop code.now (length code.now.instrs) (state cells.old (record { place = start; ended = false }) reply.old) ≡ result.1 }
+    ensures state { run_to_stop code.now (length code.now.instrs) (going cells.old start reply.old) ≡ state cells.new result.0 reply.new }
+    ensures ran { steps_to_stop code.now (length code.now.instrs) (going cells.old start reply.old) ≡ result.1 }
     ensures few { result.1 ≤ 65536 }
     ensures steps { steps.new ≡ steps.old + result.1 }
 {
@@ -210,9 +210,9 @@ pub(crate) fn take_words<L: Ledger>(
     steps: &mut Steps<L>,
 ) -> usize
     requires valid { IsValid code.now }
-    requires standing { IsStanding code.now (state cells.old (record { place = place; ended = false }) Ok) }
-    requires words { HasDueCount code.now (state cells.old (record { place = place; ended = false }) Ok) words.now }
-    ensures state { step code.now words.now (state cells.old (record { place = place; ended = false }) Ok) ≡ state cells.new (record { place = result; ended = false }) Ok }
+    requires standing { IsStanding code.now (going cells.old place Ok) }
+    requires words { HasDueCount code.now (going cells.old place Ok) words.now }
+    ensures state { step code.now words.now (going cells.old place Ok) ≡ going cells.new result Ok }
     ensures within { result < length code.now.instrs }
     ensures cells { length cells.new ≡ code.now.cells }
     ensures steps { steps.new ≡ steps.old + 1 }

@@ -5,6 +5,7 @@ ghost use Rattle.vp_words.specs.declared.record.Due.TheVariants.{Ended as NoneDu
 ghost use Rattle.vp_words.specs.Record.{ActFits, IsValid as AreCounts};
 ghost use Rattle.vp_isa.specs.Valid.{IsValid};
 ghost use Rattle.vp_isa.specs.Machine.{fresh, due_of, answer, HasDueCount, IsStanding};
+ghost use Rattle.vp_vm.specs.Parts.{answer_with};
 
 use crate::execute::{Position, instr_at, run_to_stop, take_words};
 use crate::steps::Steps;
@@ -101,7 +102,7 @@ impl Machine {
         requires { HasDueCount self.old.code self.old.state words.now }
         ensures ended { (result ≡ Ended) ↔ (due_of self.old.code self.old.state ≡ NoneDue) }
         ensures same { result ≡ Ended → (self.new ≡ self.old) × (out.new ≡ out.old) × (steps.new ≡ steps.old) }
-        ensures answer { result ≡ Answered → answer self.old.code words.now self.old.state ≡ record { reply = out.new.reply; next = self.new.state; ran = out.new.ran } }
+        ensures answer { result ≡ Answered → answer self.old.code words.now self.old.state ≡ answer_with out.new self.new.state }
         ensures code { self.new.code ≡ self.old.code }
         ensures ran { result ≡ Answered → out.new.ran ≤ length self.old.code.instrs }
         ensures steps { result ≡ Answered → steps.new ≡ steps.old + out.new.ran }
