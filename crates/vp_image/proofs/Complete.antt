@@ -14,7 +14,7 @@ use Rattle.vp_isa.specs.Encoding.{IsInstr, encoded}
 use Rattle.vp_isa.specs.Reading.{long_at}
 use Rattle.vp_isa.specs.Valid.{size_fits, refusal}
 use Rattle.vp_image.specs.declared.image.ImageErr.{ImageErr}
-use Rattle.vp_image.specs.Image.{body, image, count_of, image_length, package_digest, instrs_read, code_of, unless_refused, code_read, image_read, AreInstrs}
+use Rattle.vp_image.specs.Image.{body, image, count_of, image_length, package_digest, instrs_read, code_of, unless_refused, code_read, image_read, AreInstrs, IsContent}
 use Rattle.vp_image.proofs.Instrs.{AreOneInstr, instrs_back}
 use Rattle.vp_image.proofs.Sound.{header}
 use Rattle.vp_image.proofs.Passing.{Passed, passed_reads}
@@ -91,25 +91,24 @@ passed law code digest h r =
       digest = drop_at front (sha256 front) (length bytes - 32) place ∙ ap sha256 (sym (take_at front (sha256 front) (length bytes - 32) place));
     }
 
-pub image_back : AreOneInstr → (code : Code) (digest : List ℕ) → AreInstrs code.instrs → length digest ≡ 32 → refusal code ≡ None → image_read (image code digest) ≡ Ok (code, digest)
-image_back law code digest are h fine =
+pub image_back : AreOneInstr → (code : Code) (digest : List ℕ) → IsContent code digest → image_read (image code digest) ≡ Ok (code, digest)
+image_back law code digest held =
     let bytes : List ℕ = image code digest in
-    let r = ranges_from code fine in
-    passed_reads bytes (passed law code digest h r)
-    ∙ ap (code_read bytes) (instrs_read_back law code digest are r)
+    let r = ranges_from code held.accepted in
+    passed_reads bytes (passed law code digest held.long r)
+    ∙ ap (code_read bytes) (instrs_read_back law code digest held.instrs r)
     ∙ ap (λ k. unless_refused k (package_digest bytes) (refusal k)) (code_back code digest r)
-    ∙ ap (λ d. unless_refused code d (refusal code)) (digest_back law code digest h)
-    ∙ ap (unless_refused code digest) fine
+    ∙ ap (λ d. unless_refused code d (refusal code)) (digest_back law code digest held.long)
+    ∙ ap (unless_refused code digest) held.accepted
 
 -- what reading gave is one code and digest
 same_read : (x y : Code × List ℕ) (read : Result (Code × List ℕ) ImageErr) → read ≡ Ok x → read ≡ Ok y → x ≡ y
 same_read x y read f g = cc
 
 -- where each image is read back, no other code has that image
-pub same_from_image : ((code : Code) (digest : List ℕ) → AreInstrs code.instrs → length digest ≡ 32 → refusal code ≡ None → image_read (image code digest) ≡ Ok (code, digest))
-    → (code other : Code) (digest other_digest : List ℕ) → AreInstrs code.instrs → AreInstrs other.instrs → length digest ≡ 32 → length other_digest ≡ 32 → refusal code ≡ None → refusal other ≡ None
-    → image code digest ≡ image other other_digest → (code ≡ other) × (digest ≡ other_digest)
-same_from_image back code other digest other_digest are other_are h other_h fine other_fine e =
+pub same_from_image : ((code : Code) (digest : List ℕ) → IsContent code digest → image_read (image code digest) ≡ Ok (code, digest))
+    → (code other : Code) (digest other_digest : List ℕ) → IsContent code digest → IsContent other other_digest → image code digest ≡ image other other_digest → (code ≡ other) × (digest ≡ other_digest)
+same_from_image back code other digest other_digest held other_held e =
     let same : (code, digest) ≡ (other, other_digest) =
-    same_read (code, digest) (other, other_digest) (image_read (image code digest)) (back code digest are h fine) (ap image_read e ∙ back other other_digest other_are other_h other_fine) in
+    same_read (code, digest) (other, other_digest) (image_read (image code digest)) (back code digest held) (ap image_read e ∙ back other other_digest other_held) in
     (ap (λ (x : Code × List ℕ). x.0) same, ap (λ (x : Code × List ℕ). x.1) same)

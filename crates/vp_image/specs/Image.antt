@@ -101,6 +101,12 @@ image_read bytes =
 abbrev pub AreInstrs : List Instr → Type 0
 AreInstrs instrs = All IsInstr instrs
 
+-- what an image holds: code that no rule refuses, of such instructions, and a digest of 32 bytes
+pub record IsContent (code : Code) (digest : List ℕ) : Type 0 where
+  pub instrs : AreInstrs code.instrs
+  pub long : length digest ≡ 32
+  pub accepted : refusal code ≡ None
+
 -- what a call answered is what reading gives, unless memory ran out
 abbrev pub Gives : {A : Type 0} → Result A ImageErr → Result A ImageErr → Type 0
 Gives (Err Memory) read = Unit {0}

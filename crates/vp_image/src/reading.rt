@@ -4,7 +4,7 @@ ghost use Rattle.vp_isa.specs.declared.code.Code.{Code};
 ghost use Rattle.vp_isa.specs.Reading.{short_at, long_at};
 ghost use Rattle.vp_isa.specs.Valid.{refusal};
 ghost use Rattle.vp_image.specs.declared.image.ImageErr.TheVariants.{Memory};
-ghost use Rattle.vp_image.specs.Image.{image, image_read, other_version, other_length, other_digest, package_digest, instrs_read, code_of, code_read, count_of, image_length, IsFramed, AreInstrs, Gives};
+ghost use Rattle.vp_image.specs.Image.{image, image_read, other_version, other_length, other_digest, package_digest, instrs_read, code_of, code_read, count_of, image_length, IsContent, IsFramed, Gives};
 
 use crate::image::ImageErr;
 use crate::laws::written_is_read;
@@ -144,7 +144,7 @@ pub fn read_image(alloc: Global, bytes: &[u8]) -> Result<(Checked, [u8; 32]), Im
     // What is read is an image, of code that keeps the rules.
     ensures sound { IfOk result (λ read. (bytes.now ≡ image read.0 read.1) × (refusal read.0 ≡ None)) }
     // Each image of such code is read.
-    ensures complete { (code : Code) (digest : List ℕ) → AreInstrs code.instrs → length digest ≡ 32 → refusal code ≡ None → bytes.now ≡ image code digest → Gives result (Ok (code, digest)) }
+    ensures complete { (code : Code) (digest : List ℕ) → IsContent code digest → bytes.now ≡ image code digest → Gives result (Ok (code, digest)) }
 {
     written_is_read();
     read_whole(alloc, bytes)

@@ -16,4 +16,4 @@ pub returns-clause-read_back : goal.returns-clause-read_back
 returns-clause-read_back c =
     let fit : AreInstrs c.args.code.now.instrs = subst (λ (code : Code). AreInstrs code.instrs) c.code.ensures.code c.in_ok-bytes.ensures.fit in
     ap image_read (returns-clause-bytes c)
-    ∙ c.written_is_read.ensures c.args.code.now c.args.package_digest.now fit c.told-package_digest c.code.ensures.accepted
+    ∙ c.written_is_read.ensures c.args.code.now c.args.package_digest.now (record { instrs = fit; long = c.told-package_digest; accepted = c.code.ensures.accepted })
