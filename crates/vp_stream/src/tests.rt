@@ -1,7 +1,10 @@
 ghost use Rattle.std.specs.Prelude.{◌≤◌};
 ghost use Rattle.vp_words.specs.Record.{ActFits};
 
-use crate::{LineErr, content, is_skipped, read_record, write_reply};
+use crate::{
+    Ending, LineErr, Verdict, content, is_skipped, read_record, write_bad_line, write_end_line,
+    write_reply,
+};
 use vp_words::{Counts, Kind, Record, Reply, Why, Word};
 
 // An init record has 6 words, a choice 2, a sensing 4.
@@ -275,4 +278,33 @@ fn longest_reply(rt: HostRuntime) {
         assert_eq!(rt; piece, b" -9223372036854775806".as_slice());
     }
     assert_eq!(rt; out[348], b'\n');
+}
+
+#[test]
+fn ends_are_written(rt: HostRuntime) {
+    let mut out = [0; 1024];
+    let rows: [(u64, &str, &str); 3] = [
+        (0, "bad line 0\n", "end 0\n"),
+        (4097, "bad line 4097\n", "end 4097\n"),
+        (
+            u64::MAX,
+            "bad line 18446744073709551615\n",
+            "end 18446744073709551615\n",
+        ),
+    ];
+    for (number, bad, end) in rows {
+        let len = write_bad_line(number, &mut out);
+        assert_eq!(rt; &out[..len], bad.as_bytes());
+        let len = write_end_line(number, &mut out);
+        assert_eq!(rt; &out[..len], end.as_bytes());
+    }
+}
+
+#[test]
+fn lines_end_a_run(rt: HostRuntime) {
+    assert_eq!(rt; Verdict::from(Ending::Violated), Verdict::Violated);
+    assert_eq!(rt;
+        Verdict::from(Ending::BadLine { line: 3 }),
+        Verdict::BadLine
+    );
 }
