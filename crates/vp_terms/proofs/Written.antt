@@ -38,6 +38,12 @@ written_is_read _ _ _ (Whole ds h) r =
 written_is_read _ _ _ (Quotient ds es h k) r = from_parts ds (47 ∷ es) h refl ∙ (rw (h, k) (kept _ r))
 written_is_read _ _ _ (Decimal ds es h k) r = from_parts ds (46 ∷ es) h refl ∙ (rw (h, k) (kept _ r))
 
+-- digits alone are read as the number that they write, over 1
+pub digits_are_read : (ds : List ℕ) → IsTrue (is_whole ds) → number ds ≡ (if is_read (digits_value 10 ds, 1) then Some (digits_value 10 ds, 1) else None)
+digits_are_read ds h =
+    let e : number (ds ++ []) ≡ number ds = ap number (append-nil ds) in
+    sym e ∙ from_parts ds [] h tt ∙ (rw h refl)
+
 split_first : (c : ℕ) (cs : List ℕ) → front_digits cs ++ behind_digits cs ≡ cs → (b : Bool) → is_ascii_digit c ≡ b → front_digits (c ∷ cs) ++ behind_digits (c ∷ cs) ≡ c ∷ cs
 split_first c cs h true e = rw e (simp one-add (ap (λ (l : List ℕ). c ∷ l) h))
 split_first c cs h false e = rw e refl

@@ -1,3 +1,4 @@
+pub mod Certificates
 pub mod Continuing
 pub mod Control
 pub mod Evaluation

@@ -65,3 +65,33 @@ impl NameList {
         self.names.as_slice()
     }
 }
+
+/// A name as it stands in a text, which contracts see as its bytes.
+#[derive(Debug, Drop)]
+pub struct NameText {
+    name: String,
+}
+
+impl Model for NameText {
+    ghost use Rattle.std.specs.Prelude.{List, ℕ, string_bytes};
+
+    ghost Value = { List ℕ };
+
+    ghost view = { λ n. string_bytes n.name };
+}
+
+impl NameText {
+    /// The name of a string. It takes no memory.
+    pub fn of(name: String) -> NameText
+        ensures { result ≡ string_bytes name }
+    {
+        NameText { name }
+    }
+
+    /// Lends the name.
+    pub fn get(&self) -> &str
+        ensures { result.now ≡ self.now }
+    {
+        self.name.as_str()
+    }
+}

@@ -8,7 +8,7 @@ ghost use Rattle.vp_terms.specs.Packages.{package_tree};
 ghost use Rattle.vp_terms.specs.Plant.{Flow, PlantStep};
 ghost use Rattle.vp_terms.specs.Tree.{expr_tree, formula_tree, prog_tree};
 ghost use Rattle.vp_terms.specs.Running.{may_change};
-ghost use Rattle.vp_terms.specs.Number.{Writes, is_read, number};
+ghost use Rattle.vp_terms.specs.Number.{Writes, is_read, is_whole, number};
 ghost use Rattle.vp_terms.specs.Ratios.{IsNumber};
 ghost use Rattle.vp_terms.specs.Places.{place, place_count, has_variable};
 ghost use Rattle.vp_terms.specs.Variables.{all_variables, all_variables_of, has_places_below, formula_has_places_below};
@@ -94,12 +94,13 @@ pub fn programs_relate_values()
 {}
 
 /// A text is read as a number exactly where it is digits, two runs of digits with `/` between, or
-/// two with `.` between, and no part of its fraction is refused.
+/// two with `.` between, and no part of its fraction is refused. Digits alone are a whole number.
 pub fn numbers_are_written()
     ensures read { (text : List ℕ) (n d : ℕ) → Writes text n d → IsTrue (is_read (n, d)) →
         number text ≡ Some (n, d) }
     ensures written { (text : List ℕ) (n d : ℕ) → number text ≡ Some (n, d) →
         Writes text n d × IsTrue (is_read (n, d)) }
+    ensures whole { (text : List ℕ) (r : Ratio) → IsTrue (is_whole text) → IsNumber text r → r.den ≡ pos 1 }
 {}
 
 /// Each variable of a model has a place of its own, and each place is some variable's.

@@ -18,7 +18,7 @@ mod well_formed;
 pub use evaluate::{holds_at, value_at};
 pub use expr::{Expr, Places, Var};
 pub use formula::{Cmp, Formula};
-pub use items::{Items, NameList};
+pub use items::{Items, NameList, NameText};
 pub use package::{Cert, CertTerm, Names, Package, Part, Plant, Slack};
 pub use prog::Prog;
 pub use ratio::Ratio;

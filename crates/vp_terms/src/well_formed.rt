@@ -311,6 +311,30 @@ fn are_different(names: &Names) -> bool
 }
 
 impl Names {
+    /// How many parameters, states and controls the names name.
+    pub fn places(&self) -> Places
+        requires { place_count (places_of self.now) < 2 ^ 32 }
+        ensures { result ≡ places_of self.now }
+    {
+        Places {
+            params: self.params.get().len() as u32,
+            states: self.states.get().len() as u32,
+            controls: self.controls.get().len() as u32,
+        }
+    }
+}
+
+impl Places {
+    /// How many places there are: one for each variable of the model, next ones and `tau` among them.
+    pub fn count(self) -> u32
+        requires { place_count self < 2 ^ 32 }
+        ensures { result ≡ place_count self }
+    {
+        self.params + 2 * self.states + 2 * self.controls + 1
+    }
+}
+
+impl Names {
     // How many variables of each kind the names name, if there are at most 32 places.
     fn few_places(&self) -> Option<Places>
         ensures { MatchOption result (32 < place_count (places_of self.now)) (λ p.
