@@ -9,7 +9,8 @@ use crate::status::Status;
 use std::alloc::{AllocError, Global};
 use vp_image::ImageErr;
 use vp_isa::CheckErr;
-use vp_read::{NameText, ReadErr};
+use vp_read::ReadErr;
+use vp_terms::NameText;
 
 /// Writes words and the number of a place.
 fn push_place(alloc: Global, words: &str, at: u32, text: &mut Vec<u8>) -> Result<(), AllocError>

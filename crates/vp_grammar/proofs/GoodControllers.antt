@@ -14,7 +14,8 @@ use Rattle.vp_grammar.specs.declared.terminal.Terminal.TheVariants as terminal
 use Rattle.vp_grammar.specs.Grammar.{expression_then, expression_tree}
 use Rattle.vp_grammar.specs.Formulas.{or_formula}
 use Rattle.vp_grammar.specs.Controllers.{Choice, Single, Several, Block, Braced, Statements, NoStatements, Stated, Statement, Freed, Assigned, Tested, Nested, Guarded, Forked, choice_then, block_then, statements_then, statement_then, control_of, choice_tree, block_tree, statements_tree, statement_tree, SpellsController}
-use Rattle.vp_grammar.specs.Good.{is_control, may_control, may_stand, all_before, assigns, is_good_tree, is_good_condition, is_good_program, program_size}
+use Rattle.vp_grammar.specs.Strays.{is_control, assigns}
+use Rattle.vp_grammar.proofs.Good.{may_control, may_stand, all_before, is_good_tree, is_good_condition, is_good_program, program_size}
 use Rattle.vp_grammar.proofs.GoodTrees.{good_expr_is, good_formula_is, comparisons_is, both, and_both, Looks, LooksOver, expression_good, formula_good, expression_longer, formula_small}
 
 -- programs with boxes and programs without

@@ -26,7 +26,8 @@ use Rattle.vp_grammar.specs.declared.entries.Mark.TheVariants.{Rate, Setting}
 use Rattle.vp_grammar.specs.Grammar.{Expression, expression_then, expression_tree}
 use Rattle.vp_grammar.specs.Entries.{mark_then, Entries, LastEntry, Entry, entries_then, entry_trees, Bounds, LastBound, Bound, bounds_then, bound_trees, slack_tree, SpellsEntries, SpellsBounds, SpellsTimes}
 use Rattle.vp_grammar.specs.Certificates.{TermTree, Product, Squares, Multiple, CertForm, Later, Summed, Equated, labels_then, of_then, squares_then, later_then, laters_then, cert_terminals, later_tree, term_tree, cert_tree, label_of, part_word, SpellsCert}
-use Rattle.vp_grammar.specs.Good.{is_known, may_stand, all_before, is_good_tree, rates, sets, bounds, may_enter}
+use Rattle.vp_grammar.specs.Strays.{is_known, rates, sets, bounds}
+use Rattle.vp_grammar.proofs.Good.{may_stand, all_before, is_good_tree, may_enter}
 use Rattle.vp_grammar.proofs.GoodTrees.{Looks, looks_at_each, all_before_is, expression_good, good_expr_is, both, and_both}
 use Rattle.vp_grammar.proofs.EntrySteps.{comma, semicolon}
 

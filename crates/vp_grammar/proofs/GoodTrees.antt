@@ -19,7 +19,8 @@ use Rattle.vp_grammar.specs.declared.terminal.Terminal.{Terminal}
 use Rattle.vp_grammar.specs.declared.terminal.Terminal.TheVariants as terminal
 use Rattle.vp_grammar.specs.Grammar.{Expression, Summed, Start, Positive, Negative, Terms, NoTerms, Added, Subtracted, Term, Factored, Factors, NoFactors, Times, Factor, Alone, Raised, Base, Literal, Named, Timed, Bracketed, expression_then, start_then, terms_then, term_then, factors_then, factor_then, base_then, expression_tree, start_tree, terms_tree, term_tree, factors_tree, factor_tree, base_tree, known}
 use Rattle.vp_grammar.specs.Formulas.{Disjunction, OrList, OrRest, NoOrs, Or, Conjunction, AndList, AndRest, NoAnds, And, Lit, Truth, Falsity, Group, NotGroup, Comparison, or_then, ors_then, and_then, ands_then, lit_then, or_formula, ors_formula, and_formula, ands_formula, lit_formula}
-use Rattle.vp_grammar.specs.Good.{is_known, may_stand, all_before, is_good_tree, is_good_condition, formula_size}
+use Rattle.vp_grammar.specs.Strays.{is_known}
+use Rattle.vp_grammar.proofs.Good.{may_stand, all_before, is_good_tree, is_good_condition, formula_size}
 
 -- trees with boxes and trees without
 pub good_expr_is : (k : Kinds) (p : Places) (e : Expr) → is_good_expr k p e ≡ is_good_tree k p (expr_tree e)

@@ -3,12 +3,17 @@ pub mod CertificateSteps
 pub mod ControllerSteps
 pub mod ControllerUnique
 pub mod EntrySteps
+pub mod FewItems
 pub mod FormulaSteps
 pub mod FormulaUnique
+pub mod Good
 pub mod GoodControllers
 pub mod GoodEntries
 pub mod GoodTrees
 pub mod HeadingSteps
 pub mod Lists
+pub mod NoStrays
 pub mod Steps
+pub mod StraySteps
 pub mod Unique
+pub mod WholeNumbers

@@ -1,6 +1,7 @@
 -- The grammar of certificates.
-use Rattle.std.specs.Prelude.{ℕ, ◌≡◌, ◌-◌, ◌^◌, Bool, true, IsTrue, List, [], ◌∷◌, map, min, unsigned_abs}
+use Rattle.std.specs.Prelude.{ℕ, ◌≡◌, ◌-◌, ◌^◌, Bool, true, not, ◌||◌, IsTrue, pos, List, [], ◌∷◌, map, min, unsigned_abs}
 use Rattle.std.specs.List.{list_all}
+use Rattle.std.specs.Ordering.{int_eq}
 use Rattle.vp_terms.specs.declared.ratio.Ratio.{Ratio}
 use Rattle.vp_terms.specs.declared.package.Part.{Part}
 use Rattle.vp_terms.specs.declared.package.Part.TheVariants as part
@@ -96,6 +97,11 @@ form_tree c = record { part = c.part; number = label_of c.number; terms = Produc
 abbrev pub is_no_fraction : Terminal → Bool
 is_no_fraction (terminal.Number r w) = w
 is_no_fraction t = true
+
+-- a number that is told as a whole is one
+abbrev pub is_whole_number : Terminal → Bool
+is_whole_number (terminal.Number r w) = not w || int_eq r.den (pos 1)
+is_whole_number t = true
 
 -- a whole certificate, in which every number is a whole
 abbrev pub SpellsCert : List Terminal → CertTree → Type 0

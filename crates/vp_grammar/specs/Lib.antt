@@ -6,7 +6,7 @@ pub mod EntryReads
 pub mod Formulas
 pub mod FormulaReads
 pub mod Front
-pub mod Good
 pub mod Grammar
 pub mod Heading
 pub mod Reads
+pub mod Strays

@@ -1,5 +1,5 @@
 //! The pieces that list names, expressions or pairs of expressions, from terminals.
-ghost use Rattle.std.specs.Prelude.{◌≡◌, ◌<◌, length, map, List, MatchOption, IfOk};
+ghost use Rattle.std.specs.Prelude.{◌≡◌, ◌<◌, ◌≤◌, length, map, List, MatchOption, IfOk};
 ghost use Rattle.vp_terms.specs.Tree.{expr_tree};
 ghost use Rattle.vp_grammar.specs.Reads.{Reads, ReadsAll};
 ghost use Rattle.vp_grammar.specs.Entries.{SpellsNames, SpellsEntries, SpellsBounds, SpellsTimes, mark_then, slack_tree};
@@ -157,7 +157,8 @@ pub fn names(
     least: usize,
     terminals: &[Terminal],
 ) -> Result<Vec<Span>, ParseErr>
-    ensures { ReadsAll (λ v. v.items) (SpellsNames word least terminals.now) result }
+    ensures reads { ReadsAll (λ v. v.items) (SpellsNames word least terminals.now) result }
+    ensures few { IfOk result (λ v. length v.items ≤ length terminals.now) }
 {
     let Some(more) = after_word(word, terminals) else {
         return Err(ParseErr::Form);
@@ -198,7 +199,8 @@ pub fn whole_entries(
     mark: Mark,
     terminals: &[Terminal],
 ) -> Result<Vec<Expr>, ParseErr>
-    ensures { ReadsAll (λ v. map expr_tree v.items) (SpellsEntries word mark terminals.now) result }
+    ensures reads { ReadsAll (λ v. map expr_tree v.items) (SpellsEntries word mark terminals.now) result }
+    ensures few { IfOk result (λ v. length v.items ≤ length terminals.now) }
 {
     let Some(more) = after_word(word, terminals) else {
         return Err(ParseErr::Form);
@@ -230,7 +232,8 @@ fn bound_list(alloc: Global, terminals: &[Terminal]) -> Result<(Vec<Slack>, &[Te
 
 /// The bounds behind `slack`, with commas between and `;` at the end.
 pub fn bounds(alloc: Global, terminals: &[Terminal]) -> Result<Vec<Slack>, ParseErr>
-    ensures { ReadsAll (λ v. map slack_tree v.items) (SpellsBounds terminals.now) result }
+    ensures reads { ReadsAll (λ v. map slack_tree v.items) (SpellsBounds terminals.now) result }
+    ensures few { IfOk result (λ v. length v.items ≤ length terminals.now) }
 {
     let Some(more) = after_word(Word::Slack, terminals) else {
         return Err(ParseErr::Form);

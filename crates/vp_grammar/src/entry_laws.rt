@@ -1,22 +1,23 @@
 //! What the grammar of lists and certificates implies: terminals have at most one tree, and trees of
-//! terminals that may stand there are well formed.
-ghost use Rattle.std.specs.Prelude.{◌≡◌, ℕ, IsTrue, List, map};
+//! terminals of which no variable strays are well formed.
+ghost use Rattle.std.specs.Prelude.{◌≡◌, ℕ, IsTrue, List, None, map};
 ghost use Rattle.std.specs.List.{list_all};
 ghost use Rattle.vp_terms.specs.declared.expr.Expr.{Expr};
 ghost use Rattle.vp_terms.specs.declared.expr.Places.{Places};
 ghost use Rattle.vp_terms.specs.declared.package.Cert.{Cert};
 ghost use Rattle.vp_terms.specs.declared.package.Slack.{Slack};
-ghost use Rattle.vp_terms.specs.declared.well_formed.Kinds.{Kinds};
 ghost use Rattle.vp_terms.specs.Tree.{ExprTree, expr_tree};
-ghost use Rattle.vp_terms.specs.WellFormed.{in_slack, in_time, in_certificate, is_good_expr, is_good_slack, is_good_cert};
+ghost use Rattle.vp_terms.specs.WellFormed.{in_model, in_time, in_certificate, is_good_expr, is_good_slack, is_good_cert};
 ghost use Rattle.vp_grammar.specs.declared.entries.Mark.{Mark};
 ghost use Rattle.vp_grammar.specs.declared.entries.Mark.TheVariants.{Rate, Setting};
 ghost use Rattle.vp_grammar.specs.declared.terminal.Span.{Span};
 ghost use Rattle.vp_grammar.specs.declared.terminal.Terminal.{Terminal};
 ghost use Rattle.vp_grammar.specs.declared.terminal.Word.{Word};
 ghost use Rattle.vp_grammar.specs.Entries.{SpellsNames, SpellsEntries, SpellsBounds, SpellsTimes, slack_tree};
-ghost use Rattle.vp_grammar.specs.Certificates.{CertTree, SpellsCert, cert_tree};
-ghost use Rattle.vp_grammar.specs.Good.{all_before, bounds, may_enter, may_stand, rates, sets};
+ghost use Rattle.vp_terms.specs.Certificates.{IsCertificate};
+ghost use Rattle.vp_grammar.specs.Certificates.{CertTree, SpellsCert, cert_tree, is_whole_number};
+ghost use Rattle.vp_grammar.specs.Strays.{first_stray};
+ghost use Rattle.vp_grammar.specs.declared.strays.Rule.TheVariants as rule;
 
 /// The same terminals are no two lists of names.
 pub fn one_list_of_names()
@@ -43,23 +44,34 @@ pub fn one_certificate()
     ensures { (ts : List Terminal) (t u : CertTree) → SpellsCert ts t → SpellsCert ts u → t ≡ u }
 {}
 
-/// Entries whose variables may stand there have well formed expressions.
+/// Entries of which no variable strays have well formed expressions.
 pub fn good_entries()
-    ensures rates { (k : Kinds) (p : Places) (w : Word) (ts : List Terminal) (es : List Expr) → SpellsEntries w Rate ts (map expr_tree es) → IsTrue (all_before (may_enter rates k p) ts) → IsTrue (list_all (is_good_expr k p) es) }
-    ensures settings { (k : Kinds) (p : Places) (w : Word) (ts : List Terminal) (es : List Expr) → SpellsEntries w Setting ts (map expr_tree es) → IsTrue (all_before (may_enter sets k p) ts) → IsTrue (list_all (is_good_expr k p) es) }
+    ensures rates { (p : Places) (w : Word) (ts : List Terminal) (es : List Expr) →
+        SpellsEntries w Rate ts (map expr_tree es) → first_stray rule.Flow p 0 ts ≡ None →
+        IsTrue (list_all (is_good_expr in_model p) es) }
+    ensures settings { (p : Places) (w : Word) (ts : List Terminal) (es : List Expr) →
+        SpellsEntries w Setting ts (map expr_tree es) → first_stray rule.Fallback p 0 ts ≡ None →
+        IsTrue (list_all (is_good_expr in_model p) es) }
 {}
 
-/// Bounds whose variables may stand there are well formed.
+/// Bounds of which no variable strays are well formed.
 pub fn good_bounds()
-    ensures { (p : Places) (ts : List Terminal) (ss : List Slack) → SpellsBounds ts (map slack_tree ss) → IsTrue (all_before (may_enter bounds in_slack p) ts) → IsTrue (list_all (is_good_slack p) ss) }
+    ensures { (p : Places) (ts : List Terminal) (ss : List Slack) → SpellsBounds ts (map slack_tree ss) →
+        first_stray rule.Slack p 0 ts ≡ None → IsTrue (list_all (is_good_slack p) ss) }
 {}
 
-/// Times whose variables may stand there are well formed.
+/// Times of which no variable strays are well formed.
 pub fn good_times()
-    ensures { (p : Places) (e f : Expr) (ts : List Terminal) → SpellsTimes ts (expr_tree e, expr_tree f) → IsTrue (list_all (may_stand in_time p) ts) → IsTrue (is_good_expr in_time p e) × IsTrue (is_good_expr in_time p f) }
+    ensures { (p : Places) (e f : Expr) (ts : List Terminal) → SpellsTimes ts (expr_tree e, expr_tree f) →
+        first_stray (rule.Plain in_time) p 0 ts ≡ None →
+        IsTrue (is_good_expr in_time p e) × IsTrue (is_good_expr in_time p f) }
 {}
 
-/// Certificates whose variables may stand there are well formed.
+/// Certificates of which no variable strays are well formed. Each begins with its one `pos`, and has
+/// whole numbers alone, where the numbers that are told as wholes are.
 pub fn good_certificates()
-    ensures { (p : Places) (c : Cert) (ts : List Terminal) → SpellsCert ts (cert_tree c) → IsTrue (list_all (may_stand in_certificate p) ts) → IsTrue (is_good_cert p c) }
+    ensures variables { (p : Places) (c : Cert) (ts : List Terminal) → SpellsCert ts (cert_tree c) →
+        first_stray (rule.Plain in_certificate) p 0 ts ≡ None → IsTrue (is_good_cert p c) }
+    ensures form { (c : Cert) (ts : List Terminal) → SpellsCert ts (cert_tree c) →
+        IsTrue (list_all is_whole_number ts) → IsCertificate c }
 {}

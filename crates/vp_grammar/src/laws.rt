@@ -1,6 +1,5 @@
 //! Laws of the grammar: the contracts of these functions say them, and their bodies do nothing.
-ghost use Rattle.std.specs.Prelude.{◌≡◌, ◌≤◌, IsTrue, List, length};
-ghost use Rattle.std.specs.List.{list_all};
+ghost use Rattle.std.specs.Prelude.{◌≡◌, ◌≤◌, IsTrue, List, None, length};
 ghost use Rattle.vp_terms.specs.Tree.{ExprTree, FormulaTree, expr_tree, formula_tree};
 ghost use Rattle.vp_terms.specs.WellFormed.{is_good_expr, is_good_formula, comparisons};
 ghost use Rattle.vp_terms.specs.declared.expr.Expr.{Expr};
@@ -8,8 +7,9 @@ ghost use Rattle.vp_terms.specs.declared.expr.Places.{Places};
 ghost use Rattle.vp_terms.specs.declared.formula.Formula.{Formula};
 ghost use Rattle.vp_terms.specs.declared.well_formed.Kinds.{Kinds};
 ghost use Rattle.vp_grammar.specs.FormulaReads.{SpellsFormula, SpellsFormulaPiece};
-ghost use Rattle.vp_grammar.specs.Good.{may_stand};
 ghost use Rattle.vp_grammar.specs.Reads.{Spells};
+ghost use Rattle.vp_grammar.specs.Strays.{first_stray};
+ghost use Rattle.vp_grammar.specs.declared.strays.Rule.TheVariants.{Plain};
 ghost use Rattle.vp_grammar.specs.declared.terminal.Terminal.{Terminal};
 ghost use Rattle.vp_grammar.specs.declared.terminal.Word.{Word};
 
@@ -26,24 +26,27 @@ pub fn one_formula()
         SpellsFormulaPiece w ts g → f ≡ g }
 {}
 
-/// Terminals that may all stand there are those of a well formed expression.
+/// Terminals of which no variable strays are those of a well formed expression.
 pub fn good_expressions()
     ensures { (k : Kinds) (p : Places) (e : Expr) (ts : List Terminal) → Spells ts (expr_tree e) →
-        IsTrue (list_all (may_stand k p) ts) → IsTrue (is_good_expr k p e) }
+        first_stray (Plain k) p 0 ts ≡ None → IsTrue (is_good_expr k p e) }
 {}
 
-/// Terminals that may all stand there are those of a well formed formula.
+/// Terminals of which no variable strays are those of a well formed formula. It has at most as many
+/// comparisons and `true`s as there are terminals.
 pub fn whole_formulas()
-    ensures { (k : Kinds) (p : Places) (f : Formula) (ts : List Terminal) →
-        SpellsFormula ts (formula_tree f) → IsTrue (list_all (may_stand k p) ts) →
+    ensures formulas { (k : Kinds) (p : Places) (f : Formula) (ts : List Terminal) →
+        SpellsFormula ts (formula_tree f) → first_stray (Plain k) p 0 ts ≡ None →
         IsTrue (is_good_formula k p f) }
+    ensures sizes { (f : Formula) (ts : List Terminal) → SpellsFormula ts (formula_tree f) →
+        comparisons f ≤ length ts }
 {}
 
-/// The formula of a piece whose terminals may all stand there is well formed, and it has at most as
-/// many comparisons and `true`s as the piece has terminals.
+/// The formula of a piece in which no variable strays is well formed, and it has at most as many
+/// comparisons and `true`s as the piece has terminals.
 pub fn good_formulas()
     ensures conditions { (w : Word) (k : Kinds) (p : Places) (f : Formula) (ts : List Terminal) →
-        SpellsFormulaPiece w ts (formula_tree f) → IsTrue (list_all (may_stand k p) ts) →
+        SpellsFormulaPiece w ts (formula_tree f) → first_stray (Plain k) p 0 ts ≡ None →
         IsTrue (is_good_formula k p f) }
     ensures sizes { (w : Word) (f : Formula) (ts : List Terminal) →
         SpellsFormulaPiece w ts (formula_tree f) → comparisons f ≤ length ts }

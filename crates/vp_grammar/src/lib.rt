@@ -14,6 +14,7 @@ mod front;
 mod heading;
 pub mod laws;
 mod leading;
+mod strays;
 mod terminal;
 #[cfg(test)]
 mod tests;
@@ -25,4 +26,5 @@ pub use expression::whole_expression;
 pub use fault::ParseErr;
 pub use formula::{formula_piece, whole_formula};
 pub use heading::is_heading;
+pub use strays::{Rule, first_stray};
 pub use terminal::{Operator, Span, Symbol, Terminal, Word};

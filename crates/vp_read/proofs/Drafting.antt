@@ -4,98 +4,29 @@ use Rattle.std.proofs.lemmas.List.Elements.{All-head, All-tail, All-cons, All-ni
 use Rattle.std.proofs.lemmas.List.{length-map}
 use Rattle.std.proofs.Math.Seq.{take-length}
 use Rattle.std.specs.Option.{option_map, option_or}
-use Rattle.vp_terms.specs.declared.expr.Var.{Var}
 use Rattle.vp_terms.specs.declared.expr.Places.{Places}
-use Rattle.vp_terms.specs.declared.expr.Expr.{Expr}
-use Rattle.vp_terms.specs.declared.package.Slack.{Slack}
 use Rattle.vp_terms.specs.declared.package.Names.{Names}
 use Rattle.vp_terms.specs.declared.package.Package.{Package}
-use Rattle.vp_terms.specs.Tree.{expr_tree}
 use Rattle.vp_terms.specs.WellFormed.{places_of}
 use Rattle.vp_lex.specs.declared.token.Token.{Token}
+use Rattle.vp_grammar.specs.declared.strays.Rule.{Rule}
 use Rattle.vp_grammar.specs.declared.terminal.Span.{Span}
-use Rattle.vp_grammar.specs.declared.terminal.Symbol.TheVariants as symbol
-use Rattle.vp_grammar.specs.declared.terminal.Word.{Word}
-use Rattle.vp_grammar.specs.declared.terminal.Word.TheVariants as word
 use Rattle.vp_grammar.specs.declared.terminal.Terminal.{Terminal}
 use Rattle.vp_grammar.specs.declared.terminal.Terminal.TheVariants as terminal
-use Rattle.vp_grammar.specs.declared.entries.Mark.{Mark}
-use Rattle.vp_grammar.specs.declared.entries.Mark.TheVariants as mark
-use Rattle.vp_grammar.specs.Entries.{SpellsNames, SpellsEntries, SpellsBounds, Entries, LastEntry, Entry, Bounds, LastBound, Bound, names_then, mark_then, entries_then, entry_trees, bounds_then, bound_trees, slack_tree}
-use Rattle.vp_grammar.specs.Grammar.{expression_then}
-use Rattle.vp_grammar.proofs.GoodTrees.{expression_longer}
+use Rattle.vp_grammar.specs.Strays.{first_stray, fits, set_behind, variable_span}
 use Rattle.vp_read.specs.declared.fault.ReadErr.{ReadErr}
 use Rattle.vp_read.specs.declared.fault.ReadErr.TheVariants as fault
-use Rattle.vp_read.specs.declared.strays.Rule.{Rule}
 use Rattle.vp_read.specs.Spelling.{span_text}
-use Rattle.vp_read.specs.Naming.{AreFew, IsWithin, StandsIn, known}
-use Rattle.vp_read.specs.Pieces.{first_deep, items, piece}
-use Rattle.vp_read.specs.Strays.{first_stray, fits, set_behind, variable_span}
+use Rattle.vp_read.specs.Naming.{IsWithin, StandsIn, known}
+use Rattle.vp_read.specs.Pieces.{first_deep, items}
 use Rattle.vp_read.specs.Sections.{Declares, Describes, Tells, IsUnformedHead, IsUnformedBody, known_pieces, spelled}
-use Rattle.vp_read.specs.Reading.{AreShort, Checks, IsCut, IsDraft, IsPackage, Refuses, first_stray_from, rule_of, stray_of}
+use Rattle.vp_read.specs.Reading.{Checks, IsCut, IsDraft, IsPackage, Refuses, RefusesPieces, first_stray_from, rule_of, stray_of}
+use Rattle.vp_read.proofs.PieceLists.{drop_items}
 use Rattle.vp_read.proofs.Scanned.{of_items}
 
--- as many names as a piece lists, and entries
-names_few : (ns : List (Span × Option Var)) (rest : List Terminal) → length ns ≤ length (names_then ns rest)
-names_few [] rest = omega arith
-names_few (n ∷ []) rest = omega arith
-names_few (n ∷ m ∷ ms) rest = omega (arith, names_few (m ∷ ms) rest)
-
-pub listed_few : (text : List ℕ) (w : Word) (least : ℕ) (ts : List Terminal) (spans : List Span) (names : List (List ℕ)) → SpellsNames w least ts spans → names ≡ spelled text spans → length names ≤ length ts
-listed_few text w least ts spans names s e =
-    let count : length spans ≡ length s.0 = ap length s.2 ∙ length-map s.0 (λ (n : Span × Option Var). n.0) in
-    let all : length names ≡ length spans = ap length e ∙ length-map spans (λ (z : Span). span_text text z) in
-    let whole : length ts ≡ length (names_then s.0 (terminal.Symbol symbol.Semicolon ∷ [])) + 1 = ap length s.1 ∙ (omega arith) in
-    omega (arith, count, all, whole, names_few s.0 (terminal.Symbol symbol.Semicolon ∷ []))
-
-marked_longer : (m : Mark) (ts : List Terminal) → length ts ≤ length (mark_then m ts)
-marked_longer mark.Rate ts = omega arith
-marked_longer mark.Setting ts = omega arith
-
-entries_few : (m : Mark) (es : Entries) (rest : List Terminal) → length (entry_trees es) ≤ length (entries_then m es rest)
-entries_few m (LastEntry s v e) rest = omega arith
-entries_few m (Entry s v e es) rest = omega (arith, entries_few m es rest, expression_longer e (terminal.Symbol symbol.Comma ∷ entries_then m es rest), marked_longer m (expression_then e (terminal.Symbol symbol.Comma ∷ entries_then m es rest)))
-
-pub entries_short : (w : Word) (m : Mark) (ts : List Terminal) (es : List Expr) → SpellsEntries w m ts (map expr_tree es) → length es ≤ length ts
-entries_short w m ts es s =
-    let count : length es ≡ length (entry_trees s.0) = sym (length-map es expr_tree) ∙ ap length s.2 in
-    let whole : length ts ≡ length (entries_then m s.0 (terminal.Symbol symbol.Semicolon ∷ [])) + 1 = ap length s.1 ∙ (omega arith) in
-    omega (arith, count, whole, entries_few m s.0 (terminal.Symbol symbol.Semicolon ∷ []))
-
-bounds_few : (bs : Bounds) (rest : List Terminal) → length (bound_trees bs) ≤ length (bounds_then bs rest)
-bounds_few (LastBound s v e f) rest = omega arith
-bounds_few (Bound s v e f bs) rest =
-    let behind = terminal.Symbol symbol.Comma ∷ bounds_then bs rest in
-    omega (arith, bounds_few bs rest, expression_longer f behind, expression_longer e (terminal.Word word.To ∷ expression_then f behind))
-
-pub bounds_short : (ts : List Terminal) (ss : List Slack) → SpellsBounds ts (map slack_tree ss) → length ss ≤ length ts
-bounds_short ts ss s =
-    let count : length ss ≡ length (bound_trees s.0) = sym (length-map ss slack_tree) ∙ ap length s.2 in
-    let whole : length ts ≡ length (bounds_then s.0 (terminal.Symbol symbol.Semicolon ∷ [])) + 1 = ap length s.1 ∙ (omega arith) in
-    omega (arith, count, whole, bounds_few s.0 (terminal.Symbol symbol.Semicolon ∷ []))
-
--- what holds of each piece holds of the piece of each number
-pub at_each : (P : List Terminal → Type 0) (qs : List (List Terminal)) (n : ℕ) → P [] → All P qs → P (unwrap_or (slice_get qs n) [])
-at_each P [] n e h = e
-at_each P (q ∷ qs) zero e h = All-head P q qs h
-at_each P (q ∷ qs) (suc n) e h = at_each P qs n e (All-tail P q qs h)
-
-short_piece : (ps : List (Vec Terminal Global)) (k : ℕ) → All (λ v. length v.items ≤ 1048576) ps → length (piece (map items ps) k) ≤ 1048576
-short_piece ps k h = at_each (λ (p : List Terminal). length p ≤ 1048576) (map items ps) (k - 1) (omega arith) (All-map (λ (p : List Terminal). length p ≤ 1048576) items ps h)
-
-pub declared_few : (text : List ℕ) (tokens : List Token) (ps : List (Vec Terminal Global)) (names : Names) → Declares text tokens (map items ps) names → All (λ v. length v.items ≤ 1048576) ps → AreFew names
-declared_few text tokens ps names d h = (
-  omega (arith, listed_few text word.Params 0 (piece (map items ps) 2) d.param_spans names.params d.params d.params_are, short_piece ps 2 h),
-  omega (arith, listed_few text word.States 1 (piece (map items ps) 3) d.state_spans names.states d.states d.states_are, short_piece ps 3 h),
-  omega (arith, listed_few text word.Controls 1 (piece (map items ps) 4) d.control_spans names.controls d.controls d.controls_are, short_piece ps 4 h),
-)
-
-pub described_short : (ps : List (Vec Terminal Global)) (pkg : Package) → Describes (map items ps) pkg → All (λ v. length v.items ≤ 1048576) ps → AreShort pkg
-described_short ps pkg d h = (
-  omega (arith, entries_short word.Flow mark.Rate (piece (map items ps) 10) pkg.plant.rates d.flow, short_piece ps 10 h),
-  omega (arith, bounds_short (piece (map items ps) 11) pkg.plant.slack d.slack, short_piece ps 11 h),
-  omega (arith, entries_short word.Fallback mark.Setting (piece (map items ps) 13) pkg.fallback d.fallback, short_piece ps 13 h),
-)
+-- names that are spelled are as many as their spans
+pub spelled_few : (text : List ℕ) (spans : List Span) (names : List (List ℕ)) (n : ℕ) → names ≡ spelled text spans → length spans ≤ n → n ≤ 1048576 → length names ≤ 1048576
+spelled_few text spans names n e l m = omega (arith, ap length e, length-map spans (λ (z : Span). span_text text z), l, m)
 
 -- pieces whose names have their variables are as many and as long, and stand where the others do
 known_stands : (text : List ℕ) (names : Names) (t : Terminal) → StandsIn text t → StandsIn text (known text names t)
@@ -131,6 +62,18 @@ pieces_short text names (p ∷ ps) h =
 
 pub known_short : (text : List ℕ) (names : Names) (ps ks : List (Vec Terminal Global)) → map items ks ≡ known_pieces text names (map items ps) → All (λ v. length v.items ≤ 1048576) ps → All (λ v. length v.items ≤ 1048576) ks
 known_short text names ps ks e h = of_items (λ (p : List Terminal). length p ≤ 1048576) ks (subst (All (λ (p : List Terminal). length p ≤ 1048576)) (sym e) (pieces_short text names ps h))
+
+-- what refuses the pieces of a text refuses the text
+pub pieces_refuse : (text : List ℕ) (e : ReadErr) → RefusesPieces text e → Refuses text e
+pieces_refuse text (fault.Lex at) h = h
+pieces_refuse text (fault.Number at) h = h
+pieces_refuse text (fault.Deep n) h = h
+pieces_refuse text fault.Memory h = tt
+pieces_refuse text (fault.Section n) h = absurd h
+pieces_refuse text (fault.Names n) h = absurd h
+pieces_refuse text (fault.Twice name) h = absurd h
+pieces_refuse text (fault.Entries n m) h = absurd h
+pieces_refuse text (fault.Undeclared name n) h = absurd h
 
 -- what refuses a part refuses the text
 pub tells_refuses : (text : List ℕ) (Q : ℕ → Type 0) (e : ReadErr) → Tells Q e → ((n : ℕ) → Q n → Refuses text (fault.Section n)) → Refuses text e
@@ -194,11 +137,6 @@ drop_each : (text : List ℕ) (n : ℕ) (qs : List (List Terminal)) → All (All
 drop_each text zero qs h = h
 drop_each text (suc n) [] h = All-nil (All (StandsIn text))
 drop_each text (suc n) (q ∷ qs) h = drop_each text n qs (All-tail (All (StandsIn text)) q qs h)
-
-drop_items : (n : ℕ) (ps : List (Vec Terminal Global)) → map items (drop n ps) ≡ drop n (map items ps)
-drop_items zero ps = refl
-drop_items (suc n) [] = refl
-drop_items (suc n) (p ∷ ps) = drop_items n ps
 
 pub fifth_is : (ps qs : List (Vec Terminal Global)) → qs ≡ drop 4 ps → map items qs ≡ drop 4 (map items ps)
 fifth_is ps qs e = ap (map items) e ∙ drop_items 4 ps

@@ -1,6 +1,6 @@
 -- What a text is read as is well formed.
 use Rattle.std.proofs.Common.{ℕ, zero, suc, ◌+◌, ◌≡◌, ◌≢◌, ◌<◌, ◌≤◌, Bool, true, false, ◌&&◌, ◌||◌, IsTrue, nat_eq, nat_lt, List, [], ◌∷◌, ◌++◌, length, map, All, AllPairs, drop, Option, None, Some, slice_get, unwrap_or, if◌then◌else◌, refl, ap, sym, ◌∙◌, subst, arith}
-use Rattle.std.proofs.lemmas.Bool.{eqb-true, le-ltb, ltb-false}
+use Rattle.std.proofs.lemmas.Bool.{and_from, eqb-true, le-ltb, ltb-false}
 use Rattle.std.proofs.lemmas.List.{length-map}
 use Rattle.std.proofs.lemmas.List.Elements.{All-head, All-tail, All-cons, All-nil}
 use Rattle.std.proofs.lemmas.List.Kept.{AllPairs-cons}
@@ -8,79 +8,46 @@ use Rattle.std.proofs.lemmas.Slice.Eq.{bytes_eq-Decides}
 use Rattle.std.specs.List.{list_all}
 use Rattle.std.specs.Str.{bytes_eq}
 use Rattle.std.specs.Option.{option_map, option_or}
+use Rattle.vp_terms.specs.declared.expr.Expr.{Expr}
 use Rattle.vp_terms.specs.declared.expr.Places.{Places}
 use Rattle.vp_terms.specs.declared.formula.Formula.{Formula}
 use Rattle.vp_terms.specs.declared.package.Cert.{Cert}
 use Rattle.vp_terms.specs.declared.package.Package.{Package}
+use Rattle.vp_terms.specs.declared.package.Slack.{Slack as SlackOf}
+use Rattle.vp_terms.specs.declared.prog.Prog.{Prog}
 use Rattle.vp_terms.specs.declared.well_formed.Kinds.{Kinds}
-use Rattle.vp_terms.specs.Tree.{formula_tree}
-use Rattle.vp_terms.specs.WellFormed.{IsWellFormed, AreGoodNames, IsGoodPlant, IsGoodCondition, all_names, places_of, comparisons, in_model, in_time, in_domain, in_certificate, is_good_formula, is_good_expr, is_good_cert}
+use Rattle.vp_terms.specs.Tree.{expr_tree, formula_tree, prog_tree}
+use Rattle.vp_terms.specs.WellFormed.{IsWellFormed, AreGoodNames, IsGoodPlant, IsGoodCondition, all_names, places_of, comparisons, in_model, in_time, in_domain, in_certificate, is_good_formula, is_good_expr, is_good_prog, is_good_slack, is_good_cert, prog_comparisons}
+use Rattle.vp_grammar.specs.declared.entries.Mark.TheVariants.{Rate, Setting}
+use Rattle.vp_grammar.specs.declared.strays.Rule.{Rule}
+use Rattle.vp_grammar.specs.declared.strays.Rule.TheVariants.{Plain, Controller, Flow, Slack, Fallback}
 use Rattle.vp_grammar.specs.declared.terminal.Span.{Span}
-use Rattle.vp_grammar.specs.declared.terminal.Symbol.TheVariants.{Semicolon}
 use Rattle.vp_grammar.specs.declared.terminal.Word.{Word}
 use Rattle.vp_grammar.specs.declared.terminal.Word.TheVariants as word
 use Rattle.vp_grammar.specs.declared.terminal.Terminal.{Terminal}
-use Rattle.vp_grammar.specs.declared.terminal.Terminal.TheVariants as terminal
-use Rattle.vp_grammar.specs.Certificates.{cert_tree}
-use Rattle.vp_grammar.specs.Entries.{SpellsNames}
+use Rattle.vp_grammar.specs.Certificates.{SpellsCert, cert_tree}
+use Rattle.vp_grammar.specs.Controllers.{SpellsController}
+use Rattle.vp_grammar.specs.Entries.{SpellsNames, SpellsEntries, SpellsBounds, SpellsTimes, slack_tree}
 use Rattle.vp_grammar.specs.FormulaReads.{SpellsFormulaPiece}
-use Rattle.vp_grammar.specs.Formulas.{or_formula, or_then}
-use Rattle.vp_grammar.specs.Good.{all_before, assigns, formula_size, is_control, is_good_condition, is_known, may_control, may_enter, may_stand}
-use Rattle.vp_grammar.proofs.GoodTrees.{and_both, comparisons_is, formula_small, formula_spelt_good, good_formula_is}
-use Rattle.vp_grammar.proofs.GoodControllers.{controller_good, controller_small}
-use Rattle.vp_grammar.proofs.GoodEntries.{bounds_good, cert_good, rates_good, settings_good, times_good}
-use Rattle.vp_read.specs.declared.strays.Rule.{Rule}
-use Rattle.vp_read.specs.declared.strays.Rule.TheVariants.{Plain, Controller, Flow, Slack, Fallback}
+use Rattle.vp_grammar.specs.Strays.{first_stray}
 use Rattle.vp_read.specs.Naming.{contains, first_again, known}
 use Rattle.vp_read.specs.Pieces.{first_deep, greatest_depth, is_deep, piece}
 use Rattle.vp_read.specs.Reading.{IsPackage, certificates, first_stray_from, rule_of, wrong_entries}
 use Rattle.vp_read.specs.Sections.{AreCerts, known_pieces, spelled}
 use Rattle.vp_read.specs.Spelling.{span_text}
-use Rattle.vp_read.specs.Strays.{first_stray, is_due, is_set, kinds_of}
 use Rattle.vp_read.proofs.AgainSteps.{standing}
 
--- a variable in front is none that may not stand there
-guard : (b : Bool) (o : Option Span) (s : Span) (c : Bool) → (if b then o else Some s) ≡ None → (o ≡ None → IsTrue c) → IsTrue (b && c)
-guard true o s c e f = f e
-guard false o s c e f = absurd (cc)
-
-guard_entry : (l d b : Bool) (o : Option Span) (s : Span) (c : Bool) → (if (if l then d else b) then o else Some s) ≡ None → (o ≡ None → IsTrue c) → IsTrue ((if l then true else b) && c)
-guard_entry true true b o s c e f = f e
-guard_entry true false b o s c e f = absurd (cc)
-guard_entry false d b o s c e f = guard b o s c e f
-
--- no stray: each terminal may stand there
-pub all_stand : (k : Kinds) (p : Places) (i : ℕ) (ts : List Terminal) → first_stray (Plain k) p i ts ≡ None → IsTrue (list_all (may_stand k p) ts)
-all_stand k p i [] e = refl
-all_stand k p i (terminal.Name s v ∷ ts) e = guard (is_known k p v) (first_stray (Plain k) p i ts) s (list_all (may_stand k p) ts) e (λ f. all_stand k p i ts f)
-all_stand k p i (terminal.Variable s v ∷ ts) e = guard (is_known k p v) (first_stray (Plain k) p i ts) s (list_all (may_stand k p) ts) e (λ f. all_stand k p i ts f)
-all_stand k p i (terminal.Word w ∷ ts) e = all_stand k p i ts e
-all_stand k p i (terminal.Symbol s ∷ ts) e = all_stand k p i ts e
-all_stand k p i (terminal.Operator o ∷ ts) e = all_stand k p i ts e
-all_stand k p i (terminal.Compare c ∷ ts) e = all_stand k p i ts e
-all_stand k p i (terminal.Number r w ∷ ts) e = all_stand k p i ts e
-
--- and so in a controller
-pub all_control : (p : Places) (i : ℕ) (ts : List Terminal) → first_stray Controller p i ts ≡ None → IsTrue (all_before (may_control p) ts)
-all_control p i [] e = refl
-all_control p i (terminal.Name s v ∷ ts) e = guard (if assigns ts then is_control p v else is_known in_model p v) (first_stray Controller p (if assigns ts then i + 1 else i) ts) s (all_before (may_control p) ts) e (λ f. all_control p (if assigns ts then i + 1 else i) ts f)
-all_control p i (terminal.Variable s v ∷ ts) e = guard (is_known in_model p v) (first_stray Controller p i ts) s (all_before (may_control p) ts) e (λ f. all_control p i ts f)
-all_control p i (terminal.Word w ∷ ts) e = all_control p i ts e
-all_control p i (terminal.Symbol s ∷ ts) e = all_control p i ts e
-all_control p i (terminal.Operator o ∷ ts) e = all_control p i ts e
-all_control p i (terminal.Compare c ∷ ts) e = all_control p i ts e
-all_control p i (terminal.Number r w ∷ ts) e = all_control p i ts e
-
--- and so in entries
-pub all_enter : (r : Rule) (p : Places) (i : ℕ) (ts : List Terminal) → first_stray r p i ts ≡ None → IsTrue (all_before (may_enter (λ us. is_set r us) (kinds_of r) p) ts)
-all_enter r p i [] e = refl
-all_enter r p i (terminal.Name s v ∷ ts) e = guard_entry (is_set r ts) (is_due r p i v) (is_known (kinds_of r) p v) (first_stray r p (if is_set r ts then i + 1 else i) ts) s (all_before (may_enter (λ us. is_set r us) (kinds_of r) p) ts) e (λ f. all_enter r p (if is_set r ts then i + 1 else i) ts f)
-all_enter r p i (terminal.Variable s v ∷ ts) e = guard (is_known (kinds_of r) p v) (first_stray r p i ts) s (all_before (may_enter (λ us. is_set r us) (kinds_of r) p) ts) e (λ f. all_enter r p i ts f)
-all_enter r p i (terminal.Word w ∷ ts) e = all_enter r p i ts e
-all_enter r p i (terminal.Symbol s ∷ ts) e = all_enter r p i ts e
-all_enter r p i (terminal.Operator o ∷ ts) e = all_enter r p i ts e
-all_enter r p i (terminal.Compare c ∷ ts) e = all_enter r p i ts e
-all_enter r p i (terminal.Number n w ∷ ts) e = all_enter r p i ts e
+-- what the laws of the grammar say of terminals of which no variable strays
+pub record GrammarLaws : Type 0 where
+  pub conditions : (w : Word) (k : Kinds) (p : Places) (f : Formula) (ts : List Terminal) → SpellsFormulaPiece w ts (formula_tree f) → first_stray (Plain k) p 0 ts ≡ None → IsTrue (is_good_formula k p f)
+  pub sizes : (w : Word) (f : Formula) (ts : List Terminal) → SpellsFormulaPiece w ts (formula_tree f) → comparisons f ≤ length ts
+  pub controllers : (p : Places) (q : Prog) (ts : List Terminal) → SpellsController ts (prog_tree q) → first_stray Controller p 0 ts ≡ None → IsTrue (is_good_prog p q)
+  pub controller_sizes : (q : Prog) (ts : List Terminal) → SpellsController ts (prog_tree q) → prog_comparisons q ≤ length ts
+  pub rates : (p : Places) (w : Word) (ts : List Terminal) (es : List Expr) → SpellsEntries w Rate ts (map expr_tree es) → first_stray Flow p 0 ts ≡ None → IsTrue (list_all (is_good_expr in_model p) es)
+  pub settings : (p : Places) (w : Word) (ts : List Terminal) (es : List Expr) → SpellsEntries w Setting ts (map expr_tree es) → first_stray Fallback p 0 ts ≡ None → IsTrue (list_all (is_good_expr in_model p) es)
+  pub bounds : (p : Places) (ts : List Terminal) (ss : List SlackOf) → SpellsBounds ts (map slack_tree ss) → first_stray Slack p 0 ts ≡ None → IsTrue (list_all (is_good_slack p) ss)
+  pub times : (p : Places) (e f : Expr) (ts : List Terminal) → SpellsTimes ts (expr_tree e, expr_tree f) → first_stray (Plain in_time) p 0 ts ≡ None → IsTrue (is_good_expr in_time p e) × IsTrue (is_good_expr in_time p f)
+  pub certificates : (p : Places) (c : Cert) (ts : List Terminal) → SpellsCert ts (cert_tree c) → first_stray (Plain in_certificate) p 0 ts ≡ None → IsTrue (is_good_cert p c)
 
 -- no stray in all pieces: none in the first, and none behind it
 first_of : (o : Option Span) (rest : Option (Span × ℕ)) (k : ℕ) → option_or (option_map (λ s. (s, k)) o) rest ≡ None → (o ≡ None) × (rest ≡ None)
@@ -129,23 +96,29 @@ no_eq k n l = of (nat_eq k n) refl
 rule_behind : (k : ℕ) → 14 ≤ k → rule_of k ≡ certificates
 rule_behind k l = rw (le-ltb k 8 (omega (arith, l)), no_eq k 8 (omega (arith, l)), no_eq k 9 (omega (arith, l)), no_eq k 10 (omega (arith, l)), no_eq k 11 (omega (arith, l)), no_eq k 12 (omega (arith, l)), no_eq k 13 (omega (arith, l))) refl
 
-pub certs_good : (p : Places) (k : ℕ) (qs : List (List Terminal)) (cs : List Cert) → 14 ≤ k → first_stray_from p k qs ≡ None → AreCerts qs (map cert_tree cs) → IsTrue (list_all (is_good_cert p) cs)
-certs_good p k [] [] l e a = refl
-certs_good p k [] (c ∷ cs) l e a = absurd a
-certs_good p k (q ∷ qs) [] l e a = refl
-certs_good p k (q ∷ qs) (c ∷ cs) l e a =
+pub certs_good : (g : GrammarLaws) (p : Places) (k : ℕ) (qs : List (List Terminal)) (cs : List Cert) → 14 ≤ k → first_stray_from p k qs ≡ None → AreCerts qs (map cert_tree cs) → IsTrue (list_all (is_good_cert p) cs)
+certs_good g p k [] [] l e a = refl
+certs_good g p k [] (c ∷ cs) l e a = absurd a
+certs_good g p k (q ∷ qs) [] l e a = refl
+certs_good g p k (q ∷ qs) (c ∷ cs) l e a =
     let b : (first_stray (rule_of k) p 0 q ≡ None) × (first_stray_from p (k + 1) qs ≡ None) = first_of (first_stray (rule_of k) p 0 q) (first_stray_from p (k + 1) qs) k e in
     let f : first_stray certificates p 0 q ≡ None = subst (λ (r : Rule). first_stray r p 0 q ≡ None) (rule_behind k l) b.0 in
-    and_both (is_good_cert p c) (list_all (is_good_cert p) cs) (cert_good p c q a.0 (all_stand in_certificate p 0 q f)) (certs_good p (k + 1) qs cs (omega (arith, l)) b.1 a.1)
+    and_from (is_good_cert p c) (list_all (is_good_cert p) cs) (g.certificates p c q a.0 f) (certs_good g p (k + 1) qs cs (omega (arith, l)) b.1 a.1)
 
 -- no piece has more than 2,048 terminals
-shallow : (p : List Terminal) (k : ℕ) (o : Option ℕ) → (if is_deep p then Some k else o) ≡ None → (length p ≤ 2048) × (o ≡ None)
-shallow p k o e = of (nat_lt 2048 (length p)) (nat_lt 32 (greatest_depth 0 p)) refl e
+pub not_deep : (p : List Terminal) → is_deep p ≡ false → length p ≤ 2048
+not_deep p e = of (nat_lt 2048 (length p)) refl e
   where
-    of : (a b : Bool) → nat_lt 2048 (length p) ≡ a → (if a || b then Some k else o) ≡ None → (length p ≤ 2048) × (o ≡ None)
-    of true b g e = absurd (cc)
-    of false true g e = absurd (cc)
-    of false false g e = (ltb-false 2048 (length p) g, e)
+    of : (a : Bool) → nat_lt 2048 (length p) ≡ a → (a || nat_lt 32 (greatest_depth 0 p)) ≡ false → length p ≤ 2048
+    of true g e = absurd (cc)
+    of false g e = ltb-false 2048 (length p) g
+
+shallow : (p : List Terminal) (k : ℕ) (o : Option ℕ) → (if is_deep p then Some k else o) ≡ None → (length p ≤ 2048) × (o ≡ None)
+shallow p k o e = of (is_deep p) refl e
+  where
+    of : (a : Bool) → is_deep p ≡ a → (if a then Some k else o) ≡ None → (length p ≤ 2048) × (o ≡ None)
+    of true g e = absurd (cc)
+    of false g e = (not_deep p g, e)
 
 pub small : (f : Terminal → Terminal) (k : ℕ) (ps : List (List Terminal)) (n : ℕ) → first_deep k ps ≡ None → length (unwrap_or (slice_get (map (map f) ps) n) []) ≤ 2048
 small f k [] n e = omega arith
@@ -153,17 +126,8 @@ small f k (p ∷ ps) zero e = omega (arith, length-map p f, (shallow p k (first_
 small f k (p ∷ ps) (suc n) e = small f (k + 1) ps n (shallow p k (first_deep (k + 1) ps) e).1
 
 -- a formula's piece
-pub condition_good : (w : Word) (k : Kinds) (p : Places) (f : Formula) (ts : List Terminal) → SpellsFormulaPiece w ts (formula_tree f) → first_stray (Plain k) p 0 ts ≡ None → IsTrue (is_good_formula k p f)
-condition_good w k p f ts s e = good_formula_is k p f ∙ ap (is_good_condition k p) s.2 ∙ (formula_spelt_good k p s.0 (terminal.Symbol Semicolon ∷ []) (ap (list_all (may_stand k p)) (sym s.1) ∙ all_stand k p 0 ts e)).0
-
-pub condition_small : (w : Word) (f : Formula) (ts : List Terminal) → SpellsFormulaPiece w ts (formula_tree f) → length ts ≤ 2048 → comparisons f ≤ 2048
-condition_small w f ts s l =
-    let a : comparisons f ≡ formula_size (or_formula s.0) = comparisons_is f ∙ ap formula_size s.2 in
-    let b : length ts ≡ 1 + length (or_then s.0 (terminal.Symbol Semicolon ∷ [])) = ap length s.1 ∙ (omega arith) in
-    omega (arith, formula_small s.0 (terminal.Symbol Semicolon ∷ []), l)
-
-pub condition : (w : Word) (p : Places) (f : Formula) (ts : List Terminal) → SpellsFormulaPiece w ts (formula_tree f) → first_stray (Plain in_model) p 0 ts ≡ None → length ts ≤ 2048 → IsGoodCondition p f
-condition w p f ts s e l = record { variables = condition_good w in_model p f ts s e; size = condition_small w f ts s l }
+pub condition : (g : GrammarLaws) (w : Word) (p : Places) (f : Formula) (ts : List Terminal) → SpellsFormulaPiece w ts (formula_tree f) → first_stray (Plain in_model) p 0 ts ≡ None → length ts ≤ 2048 → IsGoodCondition p f
+condition g w p f ts s e l = record { variables = g.conditions w in_model p f ts s e; size = omega (arith, g.sizes w f ts s, l) }
 
 -- no name stands twice
 pub none_before : (before ns : List (List ℕ)) → first_again before ns ≡ None → All (λ a. contains before a ≡ false) ns × AllPairs (λ a b. a ≢ b) ns
@@ -223,35 +187,35 @@ good_names text pkg h = record {
   few = h.few;
 }
 
-good_plant : (text : List ℕ) (pkg : Package) → IsPackage text pkg → IsGoodPlant (places_of pkg.names) pkg.plant
-good_plant text pkg h =
+good_plant : (g : GrammarLaws) (text : List ℕ) (pkg : Package) → IsPackage text pkg → IsGoodPlant (places_of pkg.names) pkg.plant
+good_plant g text pkg h =
     let p : Places = places_of pkg.names in
     let ks : List (List Terminal) = known_pieces text pkg.names h.draft.pieces in
-    let times : IsTrue (is_good_expr in_time p pkg.plant.low) × IsTrue (is_good_expr in_time p pkg.plant.high) = times_good p pkg.plant.low pkg.plant.high (piece ks 9) h.draft.body.time (all_stand in_time p 0 (piece ks 9) (piece_fits p ks 4 h.declared)) in
+    let times : IsTrue (is_good_expr in_time p pkg.plant.low) × IsTrue (is_good_expr in_time p pkg.plant.high) = g.times p pkg.plant.low pkg.plant.high (piece ks 9) h.draft.body.time (piece_fits p ks 4 h.declared) in
     record {
       low = times.0;
       high = times.1;
-      rates = rates_good in_model p word.Flow (piece ks 10) pkg.plant.rates h.draft.body.flow (all_enter Flow p 0 (piece ks 10) (piece_fits p ks 5 h.declared));
+      rates = g.rates p word.Flow (piece ks 10) pkg.plant.rates h.draft.body.flow (piece_fits p ks 5 h.declared);
       rate_count = (counts pkg h.entries).0;
-      slack = bounds_good p (piece ks 11) pkg.plant.slack h.draft.body.slack (all_enter Slack p 0 (piece ks 11) (piece_fits p ks 6 h.declared));
+      slack = g.bounds p (piece ks 11) pkg.plant.slack h.draft.body.slack (piece_fits p ks 6 h.declared);
       slack_count = (counts pkg h.entries).1;
-      domain = condition_good word.Domain in_domain p pkg.plant.domain (piece ks 12) h.draft.body.domain (piece_fits p ks 7 h.declared);
-      domain_size = condition_small word.Domain pkg.plant.domain (piece ks 12) h.draft.body.domain (small (known text pkg.names) 1 h.draft.pieces 11 h.draft.shallow);
+      domain = g.conditions word.Domain in_domain p pkg.plant.domain (piece ks 12) h.draft.body.domain (piece_fits p ks 7 h.declared);
+      domain_size = omega (arith, g.sizes word.Domain pkg.plant.domain (piece ks 12) h.draft.body.domain, small (known text pkg.names) 1 h.draft.pieces 11 h.draft.shallow);
     }
 
-pub good_package : (text : List ℕ) (pkg : Package) → IsPackage text pkg → IsWellFormed pkg
-good_package text pkg h =
+pub good_package : (g : GrammarLaws) (text : List ℕ) (pkg : Package) → IsPackage text pkg → IsWellFormed pkg
+good_package g text pkg h =
     let p : Places = places_of pkg.names in
     let ks : List (List Terminal) = known_pieces text pkg.names h.draft.pieces in
     record {
       names = good_names text pkg h;
-      init = condition word.Init p pkg.init (piece ks 5) h.draft.body.init (piece_fits p ks 0 h.declared) (small (known text pkg.names) 1 h.draft.pieces 4 h.draft.shallow);
-      inv = condition word.Inv p pkg.inv (piece ks 6) h.draft.body.inv (piece_fits p ks 1 h.declared) (small (known text pkg.names) 1 h.draft.pieces 5 h.draft.shallow);
-      safe = condition word.Safe p pkg.safe (piece ks 7) h.draft.body.safe (piece_fits p ks 2 h.declared) (small (known text pkg.names) 1 h.draft.pieces 6 h.draft.shallow);
-      ctrl = controller_good p pkg.ctrl (piece ks 8) h.draft.body.ctrl (all_control p 0 (piece ks 8) (piece_fits p ks 3 h.declared));
-      ctrl_size = omega (arith, controller_small pkg.ctrl (piece ks 8) h.draft.body.ctrl, small (known text pkg.names) 1 h.draft.pieces 7 h.draft.shallow);
-      plant = good_plant text pkg h;
-      fallback = settings_good in_model p word.Fallback (piece ks 13) pkg.fallback h.draft.body.fallback (all_enter Fallback p 0 (piece ks 13) (piece_fits p ks 8 h.declared));
+      init = condition g word.Init p pkg.init (piece ks 5) h.draft.body.init (piece_fits p ks 0 h.declared) (small (known text pkg.names) 1 h.draft.pieces 4 h.draft.shallow);
+      inv = condition g word.Inv p pkg.inv (piece ks 6) h.draft.body.inv (piece_fits p ks 1 h.declared) (small (known text pkg.names) 1 h.draft.pieces 5 h.draft.shallow);
+      safe = condition g word.Safe p pkg.safe (piece ks 7) h.draft.body.safe (piece_fits p ks 2 h.declared) (small (known text pkg.names) 1 h.draft.pieces 6 h.draft.shallow);
+      ctrl = g.controllers p pkg.ctrl (piece ks 8) h.draft.body.ctrl (piece_fits p ks 3 h.declared);
+      ctrl_size = omega (arith, g.controller_sizes pkg.ctrl (piece ks 8) h.draft.body.ctrl, small (known text pkg.names) 1 h.draft.pieces 7 h.draft.shallow);
+      plant = good_plant g text pkg h;
+      fallback = g.settings p word.Fallback (piece ks 13) pkg.fallback h.draft.body.fallback (piece_fits p ks 8 h.declared);
       fallback_count = (counts pkg h.entries).2;
-      certs = certs_good p 14 (drop 13 ks) pkg.certs (omega arith) (certs_fit p ks h.declared) h.draft.body.certs;
+      certs = certs_good g p 14 (drop 13 ks) pkg.certs (omega arith) (certs_fit p ks h.declared) h.draft.body.certs;
     }

@@ -1,5 +1,5 @@
 -- The spans of listed names lie within the text.
-use Rattle.std.proofs.Common.{Vec, Global, ℕ, zero, suc, ◌-◌, List, [], ◌∷◌, map, All, Option, slice_get, unwrap_or, sym, subst}
+use Rattle.std.proofs.Common.{Vec, Global, ℕ, ◌-◌, List, [], ◌∷◌, map, All, Option, sym, subst}
 use Rattle.std.proofs.lemmas.List.Elements.{All-head, All-tail, All-cons, All-nil, All-map}
 use Rattle.vp_terms.specs.declared.expr.Var.{Var}
 use Rattle.vp_grammar.specs.declared.terminal.Span.{Span}
@@ -10,6 +10,7 @@ use Rattle.vp_grammar.specs.declared.terminal.Terminal.TheVariants as terminal
 use Rattle.vp_grammar.specs.Entries.{SpellsNames, names_then}
 use Rattle.vp_read.specs.Naming.{IsWithin, StandsIn}
 use Rattle.vp_read.specs.Pieces.{items, piece}
+use Rattle.vp_read.proofs.PieceLists.{at_number}
 
 spans_within : (text : List ℕ) (ns : List (Span × Option Var)) (rest : List Terminal) → All (StandsIn text) (names_then ns rest) → All (IsWithin text) (map (λ (k : Span × Option Var). k.0) ns)
 spans_within text [] rest h = All-nil (IsWithin text)
@@ -23,12 +24,6 @@ pub listed_within : (text : List ℕ) (w : Word) (least : ℕ) (ts : List Termin
 listed_within text w least ts spans s h =
     let all : All (StandsIn text) (terminal.Word w ∷ names_then s.0 (terminal.Symbol symbol.Semicolon ∷ [])) = subst (All (StandsIn text)) s.1 h in
     subst (All (IsWithin text)) (sym s.2) (spans_within text s.0 _ (All-tail (StandsIn text) (terminal.Word w) _ all))
-
--- what holds of each piece holds of the piece of each number
-at_number : (P : List Terminal → Type 0) (qs : List (List Terminal)) (n : ℕ) → P [] → All P qs → P (unwrap_or (slice_get qs n) [])
-at_number P [] n e h = e
-at_number P (q ∷ qs) zero e h = All-head P q qs h
-at_number P (q ∷ qs) (suc n) e h = at_number P qs n e (All-tail P q qs h)
 
 pub piece_within : (text : List ℕ) (ps : List (Vec Terminal Global)) (k : ℕ) → All (λ v. All (StandsIn text) v.items) ps → All (StandsIn text) (piece (map items ps) k)
 piece_within text ps k h = at_number (All (StandsIn text)) (map items ps) (k - 1) (All-nil (StandsIn text)) (All-map (All (StandsIn text)) items ps h)

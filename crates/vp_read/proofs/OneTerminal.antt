@@ -8,7 +8,6 @@ use Rattle.vp_terms.specs.declared.expr.Var.TheVariants.{Tau}
 use Rattle.vp_terms.specs.declared.ratio.Ratio.{Ratio}
 use Rattle.vp_terms.specs.Number.{is_whole}
 use Rattle.vp_terms.specs.Ratios.{IsNumber, IsQuotient}
-use Rattle.vp_terms.proofs.Numbers.{one_number}
 use Rattle.vp_lex.specs.declared.token.Token.{Token}
 use Rattle.vp_lex.specs.declared.token.TokenKind.{TokenKind}
 use Rattle.vp_lex.specs.declared.token.TokenKind.TheVariants as kind
@@ -144,22 +143,26 @@ not_both text t x e f =
 some_same : (x y : Terminal) → Some x ≡ Some y → x ≡ y
 some_same x y e = cc
 
-pub one_terminal : (text : List ℕ) (t : Token) (x y : Terminal) → IsTerminal text t x → IsTerminal text t y → x ≡ y
-one_terminal text t x y a b = of (is_told text t x a) (is_told text t y b)
+-- a text writes one number
+abbrev pub NumbersAreOne : Type 0
+NumbersAreOne = (text : List ℕ) (a b : Ratio) → IsNumber text a → IsNumber text b → a ≡ b
+
+pub one_terminal : NumbersAreOne → (text : List ℕ) (t : Token) (x y : Terminal) → IsTerminal text t x → IsTerminal text t y → x ≡ y
+one_terminal one text t x y a b = of (is_told text t x a) (is_told text t y b)
   where
     of : IsTold text t x ⊎ IsCounted text t x → IsTold text t y ⊎ IsCounted text t y → x ≡ y
     of (inl g) (inl h) = some_same x y (sym g ∙ h)
     of (inl g) (inr h) = absurd (not_both text t x h.0 g)
     of (inr g) (inl h) = absurd (not_both text t y g.0 h)
-    of (inr g) (inr h) = g.3 ∙ ap (λ (r : Ratio). terminal.Number r (is_whole (token_text text t))) (one_number (token_text text t) g.1 h.1 g.2 h.2) ∙ sym h.3
+    of (inr g) (inr h) = g.3 ∙ ap (λ (r : Ratio). terminal.Number r (is_whole (token_text text t))) (one (token_text text t) g.1 h.1 g.2 h.2) ∙ sym h.3
 
-pub one_terminals : (text : List ℕ) (ts : List Token) (xs ys : List Terminal) → AreTerminals text ts xs → AreTerminals text ts ys → xs ≡ ys
-one_terminals text [] [] [] a b = refl
-one_terminals text [] [] (y ∷ ys) a b = absurd b
-one_terminals text [] (x ∷ xs) ys a b = absurd a
-one_terminals text (t ∷ ts) [] ys a b = absurd a
-one_terminals text (t ∷ ts) (x ∷ xs) [] a b = absurd b
-one_terminals text (t ∷ ts) (x ∷ xs) (y ∷ ys) a b = ap (λ (z : Terminal). z ∷ xs) (one_terminal text t x y a.0 b.0) ∙ ap (λ (zs : List Terminal). y ∷ zs) (one_terminals text ts xs ys a.1 b.1)
+pub one_terminals : NumbersAreOne → (text : List ℕ) (ts : List Token) (xs ys : List Terminal) → AreTerminals text ts xs → AreTerminals text ts ys → xs ≡ ys
+one_terminals one text [] [] [] a b = refl
+one_terminals one text [] [] (y ∷ ys) a b = absurd b
+one_terminals one text [] (x ∷ xs) ys a b = absurd a
+one_terminals one text (t ∷ ts) [] ys a b = absurd a
+one_terminals one text (t ∷ ts) (x ∷ xs) [] a b = absurd b
+one_terminals one text (t ∷ ts) (x ∷ xs) (y ∷ ys) a b = ap (λ (z : Terminal). z ∷ xs) (one_terminal one text t x y a.0 b.0) ∙ ap (λ (zs : List Terminal). y ∷ zs) (one_terminals one text ts xs ys a.1 b.1)
 
 -- a refused number stands for no terminal
 bad_told : (text : List ℕ) (t : Token) (x : Terminal) → IsBadNumber text t → IsTold text t x ⊎ IsCounted text t x → ⊥

@@ -8,6 +8,7 @@ use Rattle.vp_grammar.specs.declared.terminal.Symbol.{Symbol}
 use Rattle.vp_grammar.specs.declared.terminal.Symbol.TheVariants as symbol
 use Rattle.vp_grammar.specs.declared.terminal.Terminal.{Terminal}
 use Rattle.vp_grammar.specs.declared.terminal.Terminal.TheVariants as terminal
+use Rattle.vp_read.proofs.PieceLists.{piece_at}
 use Rattle.vp_read.specs.Pieces.{cut, depth_behind, ends, first_deep, greatest_depth, is_deep, items, onto_first}
 
 -- what a cut gives from a depth on, as its first piece and the others
@@ -100,14 +101,11 @@ depth_end ts i d g e l b =
 abbrev pub DeepFrom : List (Vec Terminal Global) → ℕ → Type 0
 DeepFrom ps i = first_deep 1 (map items ps) ≡ first_deep (i + 1) (map items (drop i ps))
 
-piece_here : (ps : List (Vec Terminal Global)) (i : ℕ) (z : Vec Terminal Global) → i < length ps → map items (drop i ps) ≡ items (get_or ps i z) ∷ map items (drop (i + 1) ps)
-piece_here ps i z h = rw (add-one i) (ap (map items) (drop-cons ps i z h))
-
 pub deep_here : (ps : List (Vec Terminal Global)) (i : ℕ) (z : Vec Terminal Global) → i < length ps → is_deep (items (get_or ps i z)) ≡ true → DeepFrom ps i → Some (i + 1) ≡ first_deep 1 (map items ps)
-deep_here ps i z h d b = sym (b ∙ ap (first_deep (i + 1)) (piece_here ps i z h) ∙ rw d refl)
+deep_here ps i z h d b = sym (b ∙ ap (first_deep (i + 1)) (piece_at ps i z h) ∙ rw d refl)
 
 pub deep_on : (ps : List (Vec Terminal Global)) (i : ℕ) (z : Vec Terminal Global) → i < length ps → is_deep (items (get_or ps i z)) ≡ false → DeepFrom ps i → DeepFrom ps (i + 1)
-deep_on ps i z h d b = b ∙ ap (first_deep (i + 1)) (piece_here ps i z h) ∙ rw d refl
+deep_on ps i z h d b = b ∙ ap (first_deep (i + 1)) (piece_at ps i z h) ∙ rw d refl
 
 pub deep_end : (ps : List (Vec Terminal Global)) (i : ℕ) → i ≡ length ps → DeepFrom ps i → None ≡ first_deep 1 (map items ps)
 deep_end ps i e b = sym (b ∙ ap (λ (qs : List (Vec Terminal Global)). first_deep (i + 1) (map items qs)) (drop_of_length-le ps {i = i} (omega arith)))

@@ -14,6 +14,7 @@ use Rattle.vp_grammar.specs.Certificates.{CertTree, SpellsCert, cert_tree}
 use Rattle.vp_read.specs.declared.fault.ReadErr.{ReadErr}
 use Rattle.vp_read.specs.declared.fault.ReadErr.TheVariants as fault
 use Rattle.vp_read.specs.Pieces.{items}
+use Rattle.vp_read.proofs.PieceLists.{drop_items, piece_here}
 use Rattle.vp_read.specs.Sections.{AreCerts, IsFirstNoCert, IsListed, ReadsCerts, ReadsPiece, Tells, of_form}
 
 pub refused : {X T : Type 0} (view : X → T) (P : T → Type 0) (k : ℕ) (e : ReadErr) (why : ParseErr) → e ≡ of_form k why → FailsAll P why → ReadsPiece view P k (Err e)
@@ -35,17 +36,14 @@ map_more : {A B : Type 0} (f : A → B) (xs : List A) (x : A) → map f (xs ++ x
 map_more f [] x = refl
 map_more f (y ∷ ys) x = ap (λ zs. f y ∷ zs) (map_more f ys x)
 
-here : (ps : List (Vec Terminal Global)) (i : ℕ) (v : Vec Terminal Global) → i < length ps → v ≡ get_or ps i v → map items (drop i ps) ≡ items v ∷ map items (drop (i + 1) ps)
-here ps i v h e = rw (add-one i) (ap (map items) (drop-cons ps i v h)) ∙ ap (λ (u : Vec Terminal Global). items u ∷ map items (drop (i + 1) ps)) (sym e)
-
 pub cert_on : (ps : List (Vec Terminal Global)) (i : ℕ) (found : List Cert) (v : Vec Terminal Global) (c : Cert) → i < length ps → v ≡ get_or ps i v → CertsSoFar ps i found → SpellsCert (items v) (cert_tree c) → CertsSoFar ps (i + 1) (found ++ c ∷ [])
 cert_on ps i found v c h e s k = record {
   spelt = subst (λ (qs : List (List Terminal)). AreCerts qs (map cert_tree (found ++ c ∷ []))) (sym (ap (map items) (take_more ps i v h ∙ ap (λ (u : Vec Terminal Global). take i ps ++ u ∷ []) (sym e)) ∙ map_more items (take i ps) v)) (subst (λ (ts : List CertTree). AreCerts (map items (take i ps) ++ items v ∷ []) ts) (sym (map_more cert_tree found c)) (cert_more (map items (take i ps)) (map cert_tree found) (items v) (cert_tree c) s.spelt k));
-  none = λ n b. s.none n (subst (λ (qs : List (List Terminal)). IsFirstNoCert (i + 14) qs n) (sym (here ps i v h e)) (inr ((cert_tree c, k), subst (λ (m : ℕ). IsFirstNoCert m (map items (drop (i + 1) ps)) n) (omega arith) b)));
+  none = λ n b. s.none n (subst (λ (qs : List (List Terminal)). IsFirstNoCert (i + 14) qs n) (sym (piece_here ps i v h e)) (inr ((cert_tree c, k), subst (λ (m : ℕ). IsFirstNoCert m (map items (drop (i + 1) ps)) n) (omega arith) b)));
 }
 
 pub cert_none : (ps : List (Vec Terminal Global)) (i : ℕ) (found : List Cert) (v : Vec Terminal Global) (why : ParseErr) (e : ReadErr) → i < length ps → v ≡ get_or ps i v → CertsSoFar ps i found → FailsAll (SpellsCert (items v)) why → e ≡ of_form (i + 14) why → ReadsCerts 14 (map items ps) (Err e)
-cert_none ps i found v form.Form e h k s f w = subst (λ (x : ReadErr). ReadsCerts 14 (map items ps) (Err x)) (sym w) (s.none (i + 14) (subst (λ (qs : List (List Terminal)). IsFirstNoCert (i + 14) qs (i + 14)) (sym (here ps i v h k)) (inl (f, refl))))
+cert_none ps i found v form.Form e h k s f w = subst (λ (x : ReadErr). ReadsCerts 14 (map items ps) (Err x)) (sym w) (s.none (i + 14) (subst (λ (qs : List (List Terminal)). IsFirstNoCert (i + 14) qs (i + 14)) (sym (piece_here ps i v h k)) (inl (f, refl))))
 cert_none ps i found v form.Memory e h k s f w = subst (λ (x : ReadErr). ReadsCerts 14 (map items ps) (Err x)) (sym w) tt
 
 pub certs_end : (ps : List (Vec Terminal Global)) (i : ℕ) (found : List Cert) → i ≡ length ps → CertsSoFar ps i found → AreCerts (map items ps) (map cert_tree found)
@@ -75,13 +73,8 @@ tells_more P Q (fault.Entries n m) h f = h
 tells_more P Q (fault.Undeclared name n) h f = h
 
 -- the pieces behind the 13th
-drop_map : (ps : List (Vec Terminal Global)) (n : ℕ) → map items (drop n ps) ≡ drop n (map items ps)
-drop_map ps zero = refl
-drop_map [] (suc n) = refl
-drop_map (p ∷ ps) (suc n) = drop_map ps n
-
 pub behind_is : (ps qs : List (Vec Terminal Global)) → qs ≡ drop 13 ps → map items qs ≡ drop 13 (map items ps)
-behind_is ps qs e = ap (map items) e ∙ drop_map ps 13
+behind_is ps qs e = ap (map items) e ∙ drop_items 13 ps
 
 -- terminals that are no list of names list no names
 pub no_list : (text : List ℕ) (w : Word) (least : ℕ) (p : List Terminal) (why : ParseErr) → FailsAll (SpellsNames w least p) why → FailsAll (IsListed text w least p) why

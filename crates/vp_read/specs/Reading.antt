@@ -1,5 +1,5 @@
 -- What a text is read as: a package, or the first condition that refuses it.
-use Rattle.std.specs.Prelude.{ℕ, ◌+◌, ◌≡◌, ◌⊎◌, ◌<◌, ◌≤◌, nat_eq, nat_lt, List, [], ◌∷◌, ◌++◌, drop, length, map, Result, Ok, Err, Option, None, Some, if◌then◌else◌}
+use Rattle.std.specs.Prelude.{ℕ, ◌+◌, ◌≡◌, ◌≢◌, ◌⊎◌, true, false, ◌<◌, ◌≤◌, nat_eq, nat_lt, List, [], ◌∷◌, ◌++◌, drop, length, map, Result, Ok, Err, Option, None, Some, if◌then◌else◌}
 use Rattle.std.specs.Option.{option_map, option_or}
 use Rattle.std.specs.declared.vec.Vec.{Vec}
 use Rattle.std.specs.declared.alloc.Global.{Global}
@@ -12,15 +12,15 @@ use Rattle.vp_lex.specs.declared.token.Token.{Token}
 use Rattle.vp_lex.specs.Tokens.{Tokenizes}
 use Rattle.vp_grammar.specs.declared.terminal.Span.{Span}
 use Rattle.vp_grammar.specs.declared.terminal.Terminal.{Terminal}
+use Rattle.vp_grammar.specs.Strays.{first_stray}
 use Rattle.vp_read.specs.declared.fault.ReadErr.{ReadErr}
 use Rattle.vp_read.specs.declared.fault.ReadErr.TheVariants as fault
-use Rattle.vp_read.specs.declared.strays.Rule.{Rule}
-use Rattle.vp_read.specs.declared.strays.Rule.TheVariants as rule
+use Rattle.vp_grammar.specs.declared.strays.Rule.{Rule}
+use Rattle.vp_grammar.specs.declared.strays.Rule.TheVariants as rule
 use Rattle.vp_read.specs.Spelling.{AreTerminals, IsFirstBad, IsScanned, span_text}
-use Rattle.vp_read.specs.Pieces.{cut, first_deep, items}
+use Rattle.vp_read.specs.Pieces.{cut, first_deep, is_deep, items}
 use Rattle.vp_read.specs.Naming.{first_again, known}
 use Rattle.vp_read.specs.Sections.{Declares, Describes, IsUnformedHead, IsUnformedBody, known_pieces}
-use Rattle.vp_read.specs.Strays.{first_stray}
 
 -- the text has these tokens and pieces
 abbrev pub IsCut : List ℕ → List Token → List (List Terminal) → Type 0
@@ -78,11 +78,25 @@ pub record IsPackage (text : List ℕ) (pkg : Package) : Type 0 where
 abbrev pub IsUnformed : List ℕ → List Token → List (List Terminal) → ℕ → Type 0
 IsUnformed text tokens ps k = IsUnformedHead text tokens ps k ⊎ ((names : Names) × Declares text tokens ps names × IsUnformedBody (known_pieces text names ps) k)
 
+-- why a text of any grammar has no pieces that are read: its first byte in no token, its first refused
+-- number, or its first deep piece
+abbrev pub RefusesPieces : List ℕ → ReadErr → Type 0
+RefusesPieces text (fault.Lex at) = Tokenizes text (Err at)
+RefusesPieces text (fault.Number at) = (tokens : List Token) × Tokenizes text (Ok tokens) × IsFirstBad text tokens at
+RefusesPieces text (fault.Deep k) = (tokens : List Token) × (ps : List (List Terminal)) × IsCut text tokens ps × (first_deep 1 ps ≡ Some k)
+RefusesPieces text fault.Memory = Unit {0}
+RefusesPieces text e = ⊥
+
+-- the tokens and the pieces of a text, none of them deep, or what refuses them
+abbrev pub ReadsPieces : List ℕ → Result (Vec Token Global × Vec (Vec Terminal Global) Global) ReadErr → Type 0
+ReadsPieces text (Ok x) = IsCut text x.0.items (map items x.1.items) × (first_deep 1 (map items x.1.items) ≡ None)
+ReadsPieces text (Err e) = RefusesPieces text e
+
 -- the first condition that holds refuses a text; want of memory says nothing of it
 abbrev pub Refuses : List ℕ → ReadErr → Type 0
-Refuses text (fault.Lex at) = Tokenizes text (Err at)
-Refuses text (fault.Number at) = (tokens : List Token) × Tokenizes text (Ok tokens) × IsFirstBad text tokens at
-Refuses text (fault.Deep k) = (tokens : List Token) × (ps : List (List Terminal)) × IsCut text tokens ps × (first_deep 1 ps ≡ Some k)
+Refuses text (fault.Lex at) = RefusesPieces text (fault.Lex at)
+Refuses text (fault.Number at) = RefusesPieces text (fault.Number at)
+Refuses text (fault.Deep k) = RefusesPieces text (fault.Deep k)
 Refuses text (fault.Section k) = (tokens : List Token) × (ps : List (List Terminal)) × IsCut text tokens ps × (first_deep 1 ps ≡ None) × IsUnformed text tokens ps k
 Refuses text (fault.Names n) = (pkg : Package) × IsDraft text pkg × (32 < variable_count pkg) × (n ≡ variable_count pkg)
 Refuses text (fault.Twice name) = (pkg : Package) × IsDraft text pkg × (variable_count pkg ≤ 32) × (name_again pkg ≡ Some name)
@@ -93,11 +107,6 @@ Refuses text fault.Memory = Unit {0}
 abbrev pub Reads : List ℕ → Result Package ReadErr → Type 0
 Reads text (Ok pkg) = IsPackage text pkg
 Reads text (Err e) = Refuses text e
-
--- the tokens and the pieces of a text, none of them deep, or what refuses them
-abbrev pub Cuts : List ℕ → Result (Vec Token Global × Vec (Vec Terminal Global) Global) ReadErr → Type 0
-Cuts text (Ok x) = IsCut text x.0.items (map items x.1.items) × (first_deep 1 (map items x.1.items) ≡ None)
-Cuts text (Err e) = Refuses text e
 
 -- the package that a text is by the grammar, with its pieces whose names have their variables, or what refuses it
 abbrev pub Drafts : List ℕ → Result (Package × Vec (Vec Terminal Global) Global) ReadErr → Type 0
@@ -118,17 +127,29 @@ Checks text pkg ps (Err e) = ⊥
 abbrev pub AreConsecutive : List ℕ → List Token → Type 0
 AreConsecutive text tokens = (before : List Token) × (after : List Token) × Tokenizes text (Ok (before ++ tokens ++ after))
 
--- some of a text's tokens spell a part, and each variable is one of the names' that may stand in a certificate
+-- each variable may stand in a piece by its rule, or the first that may not is told with the piece's number
+abbrev pub ChecksVariables : List ℕ → Rule → Places → ℕ → List Terminal → Result (Unit {0}) ReadErr → Type 0
+ChecksVariables text r p k ts (Ok u) = first_stray r p 0 ts ≡ None
+ChecksVariables text r p k ts (Err (fault.Undeclared name n)) = (n ≡ k) × (s : Span) × (first_stray r p 0 ts ≡ Some s) × (name ≡ span_text text s)
+ChecksVariables text r p k ts (Err fault.Memory) = Unit {0}
+ChecksVariables text r p k ts (Err e) = ⊥
+
+-- some of a text's tokens, which are not deep as one piece, spell a part, and each variable is one of the
+-- names' that may stand in a certificate
 pub record IsPart {T : Type 0} (Form : List Terminal → T → Type 0) (text : List ℕ) (tokens : List Token) (names : Names) (tree : T) : Type 0 where
   pub terminals : List Terminal
   pub stand : AreTerminals text tokens terminals
+  pub shallow : is_deep terminals ≡ false
   pub form : Form (map (known text names) terminals) tree
   pub declared : first_stray certificates (places_of names) 0 (map (known text names) terminals) ≡ None
 
+-- the first condition that holds refuses a part: a refused number; depth; that it has not the form; a
+-- variable that may not stand there. The tokens are the one piece 0
 abbrev pub RefusesPart : {T : Type 0} → (List Terminal → T → Type 0) → List ℕ → List Token → Names → ReadErr → Type 0
 RefusesPart Form text tokens names (fault.Number at) = IsFirstBad text tokens at
-RefusesPart {T} Form text tokens names (fault.Section k) = (k ≡ 0) × ((terminals : List Terminal) × AreTerminals text tokens terminals × ((t : T) → Form (map (known text names) terminals) t → ⊥))
-RefusesPart {T} Form text tokens names (fault.Undeclared name k) = (k ≡ 0) × ((terminals : List Terminal) × AreTerminals text tokens terminals × ((t : T) × Form (map (known text names) terminals) t) × ((s : Span) × (first_stray certificates (places_of names) 0 (map (known text names) terminals) ≡ Some s) × (name ≡ span_text text s)))
+RefusesPart Form text tokens names (fault.Deep k) = (k ≡ 0) × ((terminals : List Terminal) × AreTerminals text tokens terminals × (is_deep terminals ≡ true))
+RefusesPart {T} Form text tokens names (fault.Section k) = (k ≡ 0) × ((terminals : List Terminal) × AreTerminals text tokens terminals × (is_deep terminals ≡ false) × ((t : T) → Form (map (known text names) terminals) t → ⊥))
+RefusesPart {T} Form text tokens names (fault.Undeclared name k) = (k ≡ 0) × ((terminals : List Terminal) × AreTerminals text tokens terminals × (is_deep terminals ≡ false) × ((t : T) × Form (map (known text names) terminals) t) × ((s : Span) × (first_stray certificates (places_of names) 0 (map (known text names) terminals) ≡ Some s) × (name ≡ span_text text s)))
 RefusesPart Form text tokens names fault.Memory = Unit {0}
 RefusesPart Form text tokens names e = ⊥
 
@@ -136,3 +157,9 @@ RefusesPart Form text tokens names e = ⊥
 abbrev pub ReadsPart : {X T : Type 0} → (X → T) → (List Terminal → T → Type 0) → List ℕ → List Token → Names → Result X ReadErr → Type 0
 ReadsPart view Form text tokens names (Ok x) = IsPart Form text tokens names (view x)
 ReadsPart view Form text tokens names (Err e) = RefusesPart Form text tokens names e
+
+-- tokens are read as a part in one way only, but for want of memory
+pub record IsReadOnce {T : Type 0} (Form : List Terminal → T → Type 0) (text : List ℕ) (tokens : List Token) (names : Names) : Type 0 where
+  pub refused : (e f : ReadErr) → RefusesPart Form text tokens names e → RefusesPart Form text tokens names f → e ≢ fault.Memory → f ≢ fault.Memory → e ≡ f
+  pub apart : (t : T) (e : ReadErr) → IsPart Form text tokens names t → RefusesPart Form text tokens names e → e ≢ fault.Memory → ⊥
+  pub alike : (t u : T) → IsPart Form text tokens names t → IsPart Form text tokens names u → t ≡ u

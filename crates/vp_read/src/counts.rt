@@ -1,11 +1,10 @@
 //! How many names and entries there are, and names that are declared twice.
 ghost use Rattle.std.specs.Prelude.{◌≡◌, ◌≤◌, ◌++◌, [], length, map, string_bytes, MatchOption, None, Some};
-ghost use Rattle.vp_terms.specs.Places.{place_count};
-ghost use Rattle.vp_terms.specs.WellFormed.{all_names, places_of};
-ghost use Rattle.vp_read.specs.Naming.{AreFew, contains, first_again};
+ghost use Rattle.vp_terms.specs.WellFormed.{all_names};
+ghost use Rattle.vp_read.specs.Naming.{contains, first_again};
 ghost use Rattle.vp_read.specs.Reading.{AreShort, wrong_entries};
 
-use vp_terms::{Names, Package, Places};
+use vp_terms::{Names, Package};
 
 // Whether the name stands in the list.
 fn contains(names: &[String], name: &str) -> bool
@@ -58,27 +57,6 @@ pub(crate) fn name_again(names: &Names) -> Option<&str>
         return Some(name);
     }
     first_again(params, states, controls)
-}
-
-/// How many parameters, states and controls the names name.
-pub(crate) fn places_of(names: &Names) -> Places
-    requires { AreFew names.now }
-    ensures { result ≡ places_of names.now }
-{
-    Places {
-        params: names.params.get().len() as u32,
-        states: names.states.get().len() as u32,
-        controls: names.controls.get().len() as u32,
-    }
-}
-
-/// How many variables the names make.
-pub(crate) fn variable_count(names: &Names) -> u32
-    requires { AreFew names.now }
-    ensures { result ≡ place_count (places_of names.now) }
-{
-    let places = places_of(names);
-    places.params + 2 * places.states + 2 * places.controls + 1
 }
 
 /// The first of pieces 10, 11 and 13 that hasn't one entry for each state or control, and how many it has.

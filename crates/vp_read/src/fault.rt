@@ -1,40 +1,10 @@
 //! Why a text is no package.
-ghost use Rattle.std.specs.Prelude.{◌≡◌, string_bytes};
+ghost use Rattle.std.specs.Prelude.{◌≡◌};
 ghost use Rattle.vp_read.specs.declared.fault.ReadErr.TheVariants.{Memory};
 
 use std::alloc::{AllocError, AllocFailed};
-use std::marker::Model;
 use vp_lex::LexErr;
-
-/// A name as it stands in a text, which contracts see as its bytes.
-#[derive(Debug, Drop)]
-pub struct NameText {
-    name: String,
-}
-
-impl Model for NameText {
-    ghost use Rattle.std.specs.Prelude.{List, ℕ, string_bytes};
-
-    ghost Value = { List ℕ };
-
-    ghost view = { λ n. string_bytes n.name };
-}
-
-impl NameText {
-    /// The name of a string. It takes no memory.
-    pub fn of(name: String) -> NameText
-        ensures { result ≡ string_bytes name }
-    {
-        NameText { name }
-    }
-
-    /// Lends the name.
-    pub fn get(&self) -> &str
-        ensures { result.now ≡ self.now }
-    {
-        self.name.as_str()
-    }
-}
+use vp_terms::NameText;
 
 /// Why a text is no package: the first condition that holds, in this order over the whole text. They
 /// are described in `docs/package.md`.
@@ -45,7 +15,8 @@ pub enum ReadErr {
     /// The first refused number begins at this byte: a part of its fraction is 2^62 or more, or its
     /// denominator is 0.
     Number { at: u32 },
-    /// The first piece of this number, from 1, has more than 2,048 tokens or 32 open brackets.
+    /// The piece of this number, from 1, is the first with more than 2,048 tokens or 32 open brackets.
+    /// For a part that is read alone it is 0.
     Deep { piece: u32 },
     /// The first piece that hasn't the form of the grammar, or the number behind the last piece where
     /// there are fewer than 13. For a part that is read alone it is 0.
@@ -56,7 +27,8 @@ pub enum ReadErr {
     Twice { name: NameText },
     /// This piece has this many entries, and not one for each state or control.
     Entries { piece: u32, count: u32 },
-    /// This name, next name or `tau` may not stand in this piece, or isn't the one that is due there.
+    /// This name, next name or `tau` may not stand in this piece, or isn't the one that is due there. A
+    /// next name has its `@`. For a part that is read alone the piece is 0.
     Undeclared { name: NameText, piece: u32 },
     /// There was too little memory.
     Memory,

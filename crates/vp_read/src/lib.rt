@@ -17,6 +17,8 @@ mod terminals;
 #[cfg(test)]
 mod tests;
 
-pub use fault::{NameText, ReadErr};
+pub use fault::ReadErr;
 pub use parts::{read_cert, read_expr, read_formula};
-pub use reading::read_package;
+pub use pieces::{cut, first_deep, piece};
+pub use reading::{known_pieces, read_package, read_pieces};
+pub use strays::check_variables;

@@ -49,11 +49,9 @@ fn first_len(terminals: &[Terminal]) -> usize
     terminals.len()
 }
 
-/// The pieces of a text, one after another.
-pub(crate) fn pieces(
-    alloc: Global,
-    terminals: &[Terminal],
-) -> Result<Vec<Vec<Terminal>>, AllocError>
+/// The pieces of the terminals of a text, one after another: each up to and with a `;` at bracket depth
+/// 0, and what follows the last such `;` as a last one.
+pub fn cut(alloc: Global, terminals: &[Terminal]) -> Result<Vec<Vec<Terminal>>, AllocError>
     requires { length terminals.now ≤ 1048576 }
     ensures pieces { IfOk result (λ v. map items v.items ≡ cut 0 terminals.now) }
     ensures short { IfOk result (λ v. All (λ p. length p.items ≤ length terminals.now) v.items) }
@@ -92,16 +90,16 @@ fn greatest_depth(terminals: &[Terminal]) -> usize
     greatest
 }
 
-// Whether a piece has too many terminals or open brackets.
-fn is_deep(piece: &[Terminal]) -> bool
+/// Whether a piece has more than 2,048 terminals or 32 open brackets.
+pub(crate) fn is_deep(piece: &[Terminal]) -> bool
     requires { length piece.now ≤ 1048576 }
     ensures { result ≡ is_deep piece.now }
 {
     piece.len() > MOST_TERMINALS || greatest_depth(piece) > MOST_OPEN
 }
 
-/// The number of the first deep piece, from 1.
-pub(crate) fn first_deep(pieces: &[Vec<Terminal>]) -> Option<u32>
+/// The number, from 1, of the first piece with more than 2,048 terminals or 32 open brackets.
+pub fn first_deep(pieces: &[Vec<Terminal>]) -> Option<u32>
     requires few { length pieces.now ≤ 1048576 }
     requires short { All (λ v. length v.items ≤ 1048576) pieces.now }
     ensures { result ≡ first_deep 1 (map items pieces.now) }
@@ -115,7 +113,7 @@ pub(crate) fn first_deep(pieces: &[Vec<Terminal>]) -> Option<u32>
 }
 
 /// The piece of a number, from 1; behind the last stand empty ones.
-pub(crate) fn piece(pieces: &[Vec<Terminal>], number: usize) -> &[Terminal]
+pub fn piece(pieces: &[Vec<Terminal>], number: usize) -> &[Terminal]
     requires { 0 < number }
     ensures { result.now ≡ piece (map items pieces.now) number }
 {

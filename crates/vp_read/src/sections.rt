@@ -8,7 +8,8 @@ ghost use Rattle.vp_grammar.specs.Entries.{SpellsEntries, SpellsBounds, SpellsTi
 ghost use Rattle.vp_grammar.specs.declared.terminal.Word.TheVariants as word;
 ghost use Rattle.vp_grammar.specs.declared.entries.Mark.TheVariants as mark;
 ghost use Rattle.vp_read.specs.Pieces.{items, piece};
-ghost use Rattle.vp_read.specs.Naming.{IsWithin, StandsIn};
+ghost use Rattle.vp_read.specs.Naming.{AreFew, IsWithin, StandsIn};
+ghost use Rattle.vp_read.specs.Reading.{AreShort};
 ghost use Rattle.vp_read.specs.Sections.{IsHeading, IsListed, ReadsBody, ReadsCerts, ReadsHead, ReadsPiece, of_form, second_text, spelled};
 
 use crate::fault::ReadErr;
@@ -77,8 +78,10 @@ fn entries(
     number: u32,
     pieces: &[Vec<Terminal>],
 ) -> Result<Vec<Expr>, ReadErr>
-    requires { 0 < number }
-    ensures { ReadsPiece (λ v. map expr_tree v.items) (SpellsEntries word mark (piece (map items pieces.now) number)) number result }
+    requires number { 0 < number }
+    requires short { All (λ v. length v.items ≤ 1048576) pieces.now }
+    ensures reads { ReadsPiece (λ v. map expr_tree v.items) (SpellsEntries word mark (piece (map items pieces.now) number)) number result }
+    ensures few { IfOk result (λ v. length v.items ≤ 1048576) }
 {
     match whole_entries(alloc, word, mark, piece(pieces, number as usize)) {
         Ok(exprs) => Ok(exprs),
@@ -88,7 +91,9 @@ fn entries(
 
 // The slack.
 fn bounds(alloc: Global, pieces: &[Vec<Terminal>]) -> Result<Vec<Slack>, ReadErr>
-    ensures { ReadsPiece (λ v. map slack_tree v.items) (SpellsBounds (piece (map items pieces.now) 11)) 11 result }
+    requires { All (λ v. length v.items ≤ 1048576) pieces.now }
+    ensures reads { ReadsPiece (λ v. map slack_tree v.items) (SpellsBounds (piece (map items pieces.now) 11)) 11 result }
+    ensures few { IfOk result (λ v. length v.items ≤ 1048576) }
 {
     match vp_grammar::bounds(alloc, piece(pieces, 11)) {
         Ok(slack) => Ok(slack),
@@ -137,12 +142,16 @@ fn listed(
     pieces: &[Vec<Terminal>],
 ) -> Result<NameList, ReadErr>
     requires number { 0 < number }
-    requires least { least ≤ 1 }
     requires within { All (λ v. All (StandsIn text.now) v.items) pieces.now }
-    ensures { ReadsPiece (λ l. l) (IsListed text.now word least (piece (map items pieces.now) number)) number result }
+    requires short { All (λ v. length v.items ≤ 1048576) pieces.now }
+    ensures reads { ReadsPiece (λ l. l) (IsListed text.now word least (piece (map items pieces.now) number)) number result }
+    ensures few { IfOk result (λ l. length l ≤ 1048576) }
 {
     match vp_grammar::names(alloc, word, least, piece(pieces, number as usize)) {
-        Ok(spans) => Ok(NameList::of(spelled(alloc, text, &spans)?)),
+        Ok(spans) => {
+            let names = spelled(alloc, text, &spans)?;
+            Ok(NameList::of(names))
+        }
         Err(why) => Err(refusal(number, why)),
     }
 }
@@ -156,7 +165,9 @@ pub(crate) fn head(
 ) -> Result<Names, ReadErr>
     requires tokens { All (λ t. IsToken text.now t) tokens.now }
     requires within { All (λ v. All (StandsIn text.now) v.items) pieces.now }
-    ensures { ReadsHead text.now tokens.now (map items pieces.now) result }
+    requires short { All (λ v. length v.items ≤ 1048576) pieces.now }
+    ensures reads { ReadsHead text.now tokens.now (map items pieces.now) result }
+    ensures few { IfOk result AreFew }
 {
     if !is_heading(text, tokens, piece(pieces, 1)) {
         return Err(ReadErr::Section { piece: 1 });
@@ -202,8 +213,10 @@ pub(crate) fn body(
     names: Names,
     pieces: &[Vec<Terminal>],
 ) -> Result<Package, ReadErr>
-    requires { length pieces.now ≤ 1048576 }
-    ensures { ReadsBody names (map items pieces.now) result }
+    requires few { length pieces.now ≤ 1048576 }
+    requires short { All (λ v. length v.items ≤ 1048576) pieces.now }
+    ensures reads { ReadsBody names (map items pieces.now) result }
+    ensures short { IfOk result AreShort }
 {
     let init = condition(alloc, Word::Init, 5, pieces)?;
     let inv = condition(alloc, Word::Inv, 6, pieces)?;

@@ -1,6 +1,6 @@
 use Rattle.std.proofs.Common.{◌≡◌, ◌≤◌, ◌+◌, ◌++◌, length, map, All}
 use Rattle.vp_read.specs.Pieces.{cut, items}
-use Rattle.vp_read.proofs.pieces.pieces.Given as goal
+use Rattle.vp_read.proofs.pieces.cut.Given as goal
 
 abbrev pub invariant-pieces : goal.invariant-pieces
 invariant-pieces l = record {

@@ -1,16 +1,46 @@
 -- The first variable of a piece that may not stand there.
-use Rattle.std.specs.Prelude.{ℕ, ◌+◌, Bool, true, false, nat_eq, List, [], ◌∷◌, Option, None, Some, if◌then◌else◌}
+use Rattle.std.specs.Prelude.{ℕ, ◌+◌, Bool, true, false, nat_eq, nat_lt, List, [], ◌∷◌, Option, None, Some, if◌then◌else◌}
+use Rattle.vp_terms.specs.declared.formula.Cmp.TheVariants as cmp
 use Rattle.vp_terms.specs.declared.expr.Var.{Var}
 use Rattle.vp_terms.specs.declared.expr.Var.TheVariants.{State, Control}
 use Rattle.vp_terms.specs.declared.expr.Places.{Places}
 use Rattle.vp_terms.specs.declared.well_formed.Kinds.{Kinds}
-use Rattle.vp_terms.specs.WellFormed.{in_model, in_slack}
+use Rattle.vp_terms.specs.WellFormed.{is_allowed, in_model, in_slack}
 use Rattle.vp_grammar.specs.declared.terminal.Span.{Span}
+use Rattle.vp_grammar.specs.declared.terminal.Symbol.TheVariants as symbol
+use Rattle.vp_grammar.specs.declared.terminal.Word.TheVariants as word
 use Rattle.vp_grammar.specs.declared.terminal.Terminal.{Terminal}
 use Rattle.vp_grammar.specs.declared.terminal.Terminal.TheVariants as terminal
-use Rattle.vp_grammar.specs.Good.{is_known, is_control, assigns, rates, bounds, sets}
-use Rattle.vp_read.specs.declared.strays.Rule.{Rule}
-use Rattle.vp_read.specs.declared.strays.Rule.TheVariants.{Plain, Controller, Flow, Slack, Fallback}
+use Rattle.vp_grammar.specs.declared.strays.Rule.{Rule}
+use Rattle.vp_grammar.specs.declared.strays.Rule.TheVariants.{Plain, Controller, Flow, Slack, Fallback}
+
+-- the name is declared and its variable may stand there
+abbrev pub is_known : Kinds → Places → Option Var → Bool
+is_known k p None = false
+is_known k p (Some v) = is_allowed k p v
+
+-- the name of a control of the model
+abbrev pub is_control : Places → Option Var → Bool
+is_control p (Some (Control i)) = nat_lt i p.controls
+is_control p v = false
+
+-- what stands in front behind a name that is set: `:=` in a controller, `'` in a flow, `from` in a
+-- slack and `=` in a fallback
+abbrev pub assigns : List Terminal → Bool
+assigns (terminal.Symbol symbol.Assign ∷ ts) = true
+assigns ts = false
+
+abbrev pub rates : List Terminal → Bool
+rates (terminal.Symbol symbol.Prime ∷ ts) = true
+rates ts = false
+
+abbrev pub bounds : List Terminal → Bool
+bounds (terminal.Word word.From ∷ ts) = true
+bounds ts = false
+
+abbrev pub sets : List Terminal → Bool
+sets (terminal.Compare cmp.Eq ∷ ts) = true
+sets ts = false
 
 -- which variables may stand in a piece, beside the names that it sets
 abbrev pub kinds_of : Rule → Kinds

@@ -1,21 +1,12 @@
--- Which terminals may stand in a piece, and what that makes of its trees.
-use Rattle.std.specs.Prelude.{ℕ, ◌+◌, Bool, true, false, ◌&&◌, nat_lt, nat_le, List, [], ◌∷◌, Option, Some, None, if◌then◌else◌}
-use Rattle.vp_terms.specs.declared.formula.Cmp.TheVariants as cmp
-use Rattle.vp_terms.specs.declared.expr.Var.{Var}
-use Rattle.vp_terms.specs.declared.expr.Var.TheVariants as variable
+-- Which terminals may stand in a piece, one by one, and what that makes of its trees.
+use Rattle.std.proofs.Common.{ℕ, ◌+◌, Bool, true, ◌&&◌, nat_lt, nat_le, List, [], ◌∷◌, if◌then◌else◌}
 use Rattle.vp_terms.specs.declared.expr.Places.{Places}
 use Rattle.vp_terms.specs.declared.well_formed.Kinds.{Kinds}
 use Rattle.vp_terms.specs.WellFormed.{is_allowed, in_model}
 use Rattle.vp_terms.specs.Tree.{ExprTree, Constant, Place, Sum, Difference, Product, Power, FormulaTree, Always, Compares, Both, Either, Denial, ProgTree, Nothing, Gives, GivesAny, Passes, OneOf, Then, Where}
-use Rattle.vp_grammar.specs.declared.terminal.Symbol.TheVariants as symbol
-use Rattle.vp_grammar.specs.declared.terminal.Word.TheVariants as word
 use Rattle.vp_grammar.specs.declared.terminal.Terminal.{Terminal}
 use Rattle.vp_grammar.specs.declared.terminal.Terminal.TheVariants as terminal
-
--- the name is declared and its variable may stand there
-abbrev pub is_known : Kinds → Places → Option Var → Bool
-is_known k p None = false
-is_known k p (Some v) = is_allowed k p v
+use Rattle.vp_grammar.specs.Strays.{is_known, is_control, assigns}
 
 -- a terminal that is no variable, or whose variable may stand there
 abbrev pub may_stand : Kinds → Places → Terminal → Bool
@@ -23,33 +14,10 @@ may_stand k p (terminal.Name s v) = is_known k p v
 may_stand k p (terminal.Variable s v) = is_known k p v
 may_stand k p t = true
 
--- the name of a control of the model
-abbrev pub is_control : Places → Option Var → Bool
-is_control p (Some (variable.Control i)) = nat_lt i p.controls
-is_control p v = false
-
 -- each terminal passes the test together with what follows it
 abbrev pub all_before : (Terminal → List Terminal → Bool) → List Terminal → Bool
 all_before test [] = true
 all_before test (t ∷ ts) = test t ts && all_before test ts
-
--- what stands in front behind a name that is set: `:=` in a controller, `'` in a flow, `from` in a
--- slack and `=` in a fallback
-abbrev pub assigns : List Terminal → Bool
-assigns (terminal.Symbol symbol.Assign ∷ ts) = true
-assigns ts = false
-
-abbrev pub rates : List Terminal → Bool
-rates (terminal.Symbol symbol.Prime ∷ ts) = true
-rates ts = false
-
-abbrev pub bounds : List Terminal → Bool
-bounds (terminal.Word word.From ∷ ts) = true
-bounds ts = false
-
-abbrev pub sets : List Terminal → Bool
-sets (terminal.Compare cmp.Eq ∷ ts) = true
-sets ts = false
 
 -- in a controller a name before `:=` is a control's, and any other variable is one of the model's formulas
 abbrev pub may_control : Places → Terminal → List Terminal → Bool

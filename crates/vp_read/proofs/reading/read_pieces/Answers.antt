@@ -2,14 +2,14 @@ use Rattle.std.proofs.Common.{◌≤◌, length, All, ap, sym, subst, arith}
 use Rattle.vp_lex.specs.Tokens.{IsToken}
 use Rattle.vp_read.specs.Spelling.{AreTerminals}
 use Rattle.vp_read.proofs.Scanned.{tokens_stand, terminals_few, pieces_stand, all_short}
-use Rattle.vp_read.proofs.reading.cut.Goals as goal
+use Rattle.vp_read.proofs.reading.read_pieces.Goals as goal
 
 pub terminals-requires : goal.terminals-requires
 terminals-requires c =
     subst (All (λ t. IsToken c.args.text.now t)) (sym c.deref.ensures.value) (tokens_stand c.args.text.now 0 c.in_ok-tokens.tokens.items (length c.args.text.now) c.in_ok-tokens.ensures.tokens)
 
-pub pieces-requires : goal.pieces-requires
-pieces-requires c =
+pub cut-requires : goal.cut-requires
+cut-requires c =
     let few = terminals_few c.args.text.now c.in_ok-tokens.tokens.items c.deref.result.now c.in_ok-terminals.terminals.items c.in_ok-tokens.ensures.tokens c.deref.ensures.value c.in_ok-terminals.ensures c.requires in
     let same = ap length c.deref-2.ensures.value in
     omega (arith, few, same)
