@@ -1,5 +1,4 @@
-pub mod Checks
-pub mod Dues
-pub mod Early
-pub mod Splits
+pub mod Files
+pub mod Numbers
 pub mod OneDue
+pub mod Streaming

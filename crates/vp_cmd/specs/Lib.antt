@@ -1,3 +1,7 @@
-pub mod Outcome
-pub mod Owed
-pub mod Sessions
+pub mod Clauses
+pub mod Commands
+pub mod Dues
+pub mod Outcomes
+pub mod Printed
+pub mod Shown
+pub mod Steps

@@ -1,13 +1,16 @@
 //! Laws of what is due: the contracts of these functions say them.
-ghost use Rattle.std.specs.Prelude.{◌≡◌, List, ℕ};
+ghost use Rattle.std.specs.Prelude.{◌≡◌, List, Option, ℕ};
 ghost use Rattle.vp_outside.specs.Loading.{NamedFile};
-ghost use Rattle.vp_cmd.specs.Outcome.{Due, IsDue};
+ghost use Rattle.vp_cmd.specs.Commands.{Command, built};
+ghost use Rattle.vp_cmd.specs.Dues.{IsDue};
+ghost use Rattle.vp_cmd.specs.Outcomes.{Outcome};
 
 use vp_read::laws::one_reading;
 
-/// One status and one text are due at most for words, files and an input.
+/// For each command that is built there is one outcome at most for files and an input.
 pub fn due_is_one()
-    ensures { (words : List (List ℕ)) (files : List NamedFile) (input : List ℕ) (d e : Due) → IsDue words files input d → IsDue words files input e → d ≡ e }
+    ensures { (files : List NamedFile) (input : List ℕ) (command : Option Command) (d e : Outcome) →
+        IsDue files input (built command) d → IsDue files input (built command) e → d ≡ e }
 {
     one_reading();
 }

@@ -2,12 +2,12 @@
 #![tactic(auto)]
 
 mod command;
-mod due;
-mod input;
 pub mod laws;
+mod opening;
+mod outcome;
 mod refusal;
-mod session;
 mod status;
+mod words;
 
 pub use command::vphy;
 pub use status::Status;

@@ -1,10 +1,11 @@
-//! The lines that say why a file is no image, or no package.
+//! The lines that are printed in place of an answer: why a file is no image, or no package.
 ghost use Rattle.std.specs.Prelude.{◌≡◌, ◌≢◌, ◌++◌, IfOk, OnOk};
 ghost use Rattle.vp_image.specs.declared.image.ImageErr.TheVariants.{Memory};
 ghost use Rattle.vp_read.specs.declared.fault.ReadErr.TheVariants as fault;
-ghost use Rattle.vp_cmd.specs.Outcome.{bad_image, check_text, image_text, place_text, read_text, refused};
+ghost use Rattle.vp_cmd.specs.Printed.{IsPrinted};
+ghost use Rattle.vp_cmd.specs.Outcomes.{bad_image, check_text, image_text, place_text, read_text, refused};
 
-use crate::due::Printed;
+use crate::outcome::Outcome;
 use crate::status::Status;
 use std::alloc::{AllocError, Global};
 use vp_image::ImageErr;
@@ -54,16 +55,15 @@ fn push_image(alloc: Global, why: ImageErr, text: &mut Vec<u8>) -> Result<(), Al
 }
 
 /// What is due for bytes that are no image.
-pub(crate) fn bad_image(alloc: Global, why: ImageErr) -> Result<Printed, AllocError>
-    ensures due { IfOk result (λ due. record { status = due.status; text = due.text.items } ≡ bad_image (image_text why)) }
-    ensures printed { IfOk result (λ due. due.status ≡ Status.BadImage) }
+pub(crate) fn bad_image(alloc: Global, why: ImageErr) -> Result<Outcome, AllocError>
+    ensures due { IfOk result (λ o. o ≡ bad_image (image_text why)) }
     ensures memory { OnOk result (why ≢ Memory) }
 {
     let mut text = Vec::new(alloc);
     text.extend_from_slice(b"bad image ")?;
     push_image(alloc, why, &mut text)?;
     text.push(b'\n')?;
-    Ok(Printed {
+    Ok(Outcome {
         status: Status::BadImage,
         text,
     })
@@ -102,17 +102,26 @@ fn push_read(alloc: Global, why: ReadErr, text: &mut Vec<u8>) -> Result<(), Allo
 }
 
 /// What is due for a text that is no package.
-pub(crate) fn bad_package(alloc: Global, why: ReadErr) -> Result<Printed, AllocError>
-    ensures due { IfOk result (λ due. record { status = due.status; text = due.text.items } ≡ refused (read_text why)) }
-    ensures printed { IfOk result (λ due. due.status ≡ Status.Refused) }
+pub(crate) fn bad_package(alloc: Global, why: ReadErr) -> Result<Outcome, AllocError>
+    ensures due { IfOk result (λ o. o ≡ refused (read_text why)) }
     ensures memory { OnOk result (why ≢ fault.Memory) }
 {
     let mut text = Vec::new(alloc);
     text.extend_from_slice(b"refused ")?;
     push_read(alloc, why, &mut text)?;
     text.push(b'\n')?;
-    Ok(Printed {
+    Ok(Outcome {
         status: Status::Refused,
         text,
     })
+}
+
+/// A line that says the same each time, and its status.
+pub(crate) fn line(alloc: Global, status: Status, text: &str) -> Result<Outcome, AllocError>
+    requires { IsPrinted status }
+    ensures { IfOk result (λ o. o ≡ record { status = status; text = text.now }) }
+{
+    let mut line = Vec::new(alloc);
+    line.extend_from_slice(text.as_bytes())?;
+    Ok(Outcome { status, text: line })
 }

@@ -1,9 +1,10 @@
 pub mod Faults
 pub mod Naming
-pub mod Packages
 pub mod Numbers
+pub mod Packages
 pub mod Parts
 pub mod Pieces
 pub mod Reading
 pub mod Sections
 pub mod Spelling
+pub mod Stages

@@ -1,0 +1,111 @@
+-- What was printed is what is due.
+use Rattle.std.proofs.Common.{◌≡◌, ◌≢◌, inl, inr, ℕ, List, [], Option, None, Some, Result, Ok, refl, sym, ap, subst, ◌∙◌}
+use Rattle.std.specs.Prelude.{codes}
+use Rattle.vp_isa.specs.Answering.{machine_of}
+use Rattle.vp_isa.specs.declared.code.Code.{Code}
+use Rattle.vp_image.specs.declared.image.ImageErr.{ImageErr}
+use Rattle.vp_image.specs.Image.{image_read}
+use Rattle.vp_outside.specs.Causes.{Rose}
+use Rattle.vp_outside.specs.Content.{Tells}
+use Rattle.vp_outside.specs.Loading.{NamedFile}
+use Rattle.vp_runner.specs.declared.ends.RunEnd.{RunEnd}
+use Rattle.vp_runner.specs.declared.ends.RunEnd.TheVariants as end
+use Rattle.vp_runner.specs.Ends.{Ends, EndsOf}
+use Rattle.vp_stream.specs.Run.{Run, run}
+use Rattle.vp_cmd.specs.declared.status.Status.{Status}
+use Rattle.vp_cmd.specs.declared.status.Status.TheVariants.{Done, Usage, Refused, Violation, BadLine, BadImage, ReadFault, WriteFault, StoreFault, WantOfMemory, TooMuch}
+use Rattle.vp_cmd.specs.Clauses.{Completes, Fulfils, IsCaused, NoFault, RunsBy}
+use Rattle.vp_cmd.specs.Commands.{Command, Exec}
+use Rattle.vp_cmd.specs.Dues.{IsDue, IsOwed, OfCode, image_limit}
+use Rattle.vp_cmd.specs.Outcomes.{Outcome, bad_image, run_outcome, status_of}
+use Rattle.vp_cmd.specs.Printed.{IsPrinted}
+use Rattle.vp_cmd.specs.Steps.{IsStreamed, OfStored, Prints, RunsOver, status_at}
+use Rattle.vp_cmd.proofs.Files.{of_file}
+
+-- a text that is due was printed under its status
+pub fulfils_due : (P : Outcome → Type 0) (o : Outcome) (result : Status) (before now : Option (List ℕ)) → IsPrinted o.status → P o → Prints o result before now → Fulfils P result before now
+fulfils_due P o WantOfMemory before now printed owed h = absurd (subst IsPrinted (sym h.0) printed)
+fulfils_due P o StoreFault before now printed owed h = absurd (subst IsPrinted (sym h.0) printed)
+fulfils_due P o ReadFault before now printed owed h = tt
+fulfils_due P o WriteFault before now printed owed h = (o, owed, h)
+fulfils_due P o result before now printed owed h = (o, owed, h.0, h.1)
+
+pub fulfils_wider : (P Q : Outcome → Type 0) (result : Status) (before now : Option (List ℕ)) → ((o : Outcome) → P o → Q o) → Fulfils P result before now → Fulfils Q result before now
+fulfils_wider P Q WantOfMemory before now wider h = h
+fulfils_wider P Q StoreFault before now wider h = h
+fulfils_wider P Q ReadFault before now wider h = tt
+fulfils_wider P Q WriteFault before now wider h = (h.0, wider h.0 h.1, h.2)
+fulfils_wider P Q result before now wider h = (h.0, wider h.0 h.1, h.2, h.3)
+
+run_fulfils : (r : Run) (end : RunEnd) (before now : Option (List ℕ)) → Ends end r before now → Fulfils (λ o. o ≡ run_outcome r) (status_at end) before now
+run_fulfils r end.Done before now k = (run_outcome r, refl, ap status_of (sym k.0), k.1)
+run_fulfils r end.Violated before now k = (run_outcome r, refl, ap status_of (sym k.0), k.1)
+run_fulfils r end.BadLine before now k = (run_outcome r, refl, ap status_of (sym k.0), k.1)
+run_fulfils r end.TooMuch before now k = (run_outcome r, refl, ap status_of (sym k.0), k.1)
+run_fulfils r end.WriteFault before now k = (run_outcome r, refl, k)
+run_fulfils r end.ReadFault before now k = tt
+
+-- a run over the input ended so
+pub run_over : (code : Code) (end : RunEnd) (left before now : Option (List ℕ)) → EndsOf (machine_of code) end left before now → RunsOver code (status_at end) left before now
+run_over code end left before now h = (h.0, h.1, run_fulfils (run (machine_of code) h.0) end before now h.2)
+
+some_told : {A : Type 0} (o : Option A) → A → (x : A) × Tells o x
+some_told None x = (x, tt)
+some_told (Some y) x = (y, refl)
+
+-- what is due for every input is due for the input
+pub owed_always : (files : Option (List NamedFile)) (left : Option (List ℕ)) (command : Option Command) (o : Outcome) → OfStored files (λ fs o. (input : List ℕ) → IsDue fs input command o) o → IsOwed files left command o
+owed_always files left command o h = let b = some_told left [] in (h.0, b.0, h.1, b.1, h.2 b.0)
+
+-- words that are no command are owed the usage line
+pub owed_usage : (files : Option (List NamedFile)) (left : Option (List ℕ)) (o : Outcome) → IsDue [] [] None o → IsOwed files left None o
+owed_usage files left o h = let fs = some_told files [] in let b = some_told left [] in (fs.0, b.0, fs.1, b.1, h)
+
+run_owed : (files : Option (List NamedFile)) (left : Option (List ℕ)) (command : Option Command) (code : Code) (bytes : List ℕ) (o : Outcome) → RunsBy files command code → Tells left bytes → o ≡ run_outcome (run (machine_of code) bytes)
+    → IsOwed files left command o
+run_owed files left (Some (Exec i)) code bytes o by told e =
+    let file = by.2 in
+    let P : Result (Code × List ℕ) ImageErr → Type 0 = λ r. OfCode (λ code o. o ≡ run_outcome (run (machine_of code) bytes)) r o in
+    (by.0, bytes, by.1, told, of_file by.0 i file.bytes image_limit (bad_image (codes "size")) (λ bs o. OfCode (λ code o. o ≡ run_outcome (run (machine_of code) bytes)) (image_read bs) o) file.there o file.short (subst P (sym file.is_read) e))
+run_owed files left command code bytes o by told e = absurd by
+
+-- a code that the command answers by was run over the input
+pub fulfils_run : (files : Option (List NamedFile)) (left : Option (List ℕ)) (command : Option Command) (code : Code) (result : Status) (before now : Option (List ℕ)) → RunsBy files command code → RunsOver code result left before now
+    → Fulfils (IsOwed files left command) result before now
+fulfils_run files left command code result before now by h =
+    fulfils_wider (λ o. o ≡ run_outcome (run (machine_of code) h.0)) (IsOwed files left command) result before now (λ o e. run_owed files left command code h.0 o by h.1 e) h.2
+
+-- what was printed is under no other fault than that of a write
+pub printed_kind : (o : Outcome) (result : Status) (before now : Option (List ℕ)) → IsPrinted o.status → Prints o result before now → (result ≢ StoreFault) × (result ≢ ReadFault)
+printed_kind o WantOfMemory before now printed h = absurd (subst IsPrinted (sym h.0) printed)
+printed_kind o StoreFault before now printed h = absurd (subst IsPrinted (sym h.0) printed)
+printed_kind o ReadFault before now printed h = absurd (subst IsPrinted (sym h.0) printed)
+printed_kind o result before now printed h = (λ e. cc, λ e. cc)
+
+-- where no count rose the outcome is one that is due, or memory ran out
+complete : (P : Outcome → Type 0) (result : Status) (before now : Option (List ℕ)) (a b c d e f : ℕ) → Fulfils P result before now
+    → (result ≡ StoreFault → Rose a b) → (result ≡ ReadFault → Rose c d) → (result ≡ WriteFault → Rose e f) → NoFault a b c d e f → Completes P result before now
+complete P WantOfMemory before now a b c d e f h s r w n = inl (refl, h)
+complete P StoreFault before now a b c d e f h s r w n = absurd (n.store (s refl))
+complete P ReadFault before now a b c d e f h s r w n = absurd (n.source (r refl))
+complete P WriteFault before now a b c d e f h s r w n = absurd (n.sink (w refl))
+complete P Done before now a b c d e f h s r w n = inr h
+complete P Usage before now a b c d e f h s r w n = inr h
+complete P Refused before now a b c d e f h s r w n = inr h
+complete P Violation before now a b c d e f h s r w n = inr h
+complete P BadLine before now a b c d e f h s r w n = inr h
+complete P BadImage before now a b c d e f h s r w n = inr h
+complete P TooMuch before now a b c d e f h s r w n = inr h
+
+-- the same of what was printed
+pub complete_printed : (P : Outcome → Type 0) (o : Outcome) (result : Status) (before now : Option (List ℕ)) (a b c d e f : ℕ) → IsPrinted o.status → P o → Prints o result before now
+    → IsCaused WriteFault result e f → NoFault a b c d e f → Completes P result before now
+complete_printed P o result before now a b c d e f printed owed h w n =
+    let kind = printed_kind o result before now printed h in
+    complete P result before now a b c d e f (fulfils_due P o result before now printed owed h) (λ q. absurd (kind.0 q)) (λ q. absurd (kind.1 q)) w.failed n
+
+-- and of a run over the input
+pub complete_run : (P : Outcome → Type 0) (result : Status) (before now : Option (List ℕ)) (a b c d e f : ℕ) → IsStreamed result → Fulfils P result before now
+    → IsCaused ReadFault result c d → IsCaused WriteFault result e f → NoFault a b c d e f → Completes P result before now
+complete_run P result before now a b c d e f streamed h r w n =
+    complete P result before now a b c d e f h (λ q. absurd (subst IsStreamed q streamed)) r.failed w.failed n

@@ -1,4 +1,0 @@
-use Rattle.vp_cmd.proofs.due.answers_to.Given as goal
-
-abbrev pub ghosts-answers_over : goal.ghosts-answers_over
-ghosts-answers_over a = record { name = a.blank.name; parts = a.blank.parts }

@@ -1,0 +1,82 @@
+-- The clauses of the top call, over the command that its words are.
+use Rattle.std.specs.Prelude.{◌≡◌, ◌≢◌, ℕ, ◌⊎◌, ◌≤◌, List, length, Option, Some, Ok}
+use Rattle.std.specs.Io.KnownBytes.{Appends, Consumes, Keeps}
+use Rattle.vp_isa.specs.Answering.{machine_of}
+use Rattle.vp_isa.specs.declared.code.Code.{Code}
+use Rattle.vp_image.specs.Image.{image_read}
+use Rattle.vp_outside.specs.Causes.{Rose}
+use Rattle.vp_outside.specs.Content.{AppendsPart, Tells}
+use Rattle.vp_outside.specs.Loading.{NamedFile, file_named}
+use Rattle.vp_runner.specs.Ends.{PrintsInTime, PrintsTaken}
+use Rattle.vp_cmd.specs.declared.status.Status.{Status}
+use Rattle.vp_cmd.specs.declared.status.Status.TheVariants.{Usage, Refused, BadImage, ReadFault, WriteFault, StoreFault, WantOfMemory}
+use Rattle.vp_cmd.specs.Commands.{Command, Exec, first_file}
+use Rattle.vp_cmd.specs.Dues.{image_limit}
+use Rattle.vp_cmd.specs.Outcomes.{Outcome}
+
+-- ---- the outcome
+
+-- the status and the bytes are those of something that is due, or memory ran out or a load failed and
+-- nothing was written, or a write failed and a proper part was; what a read fault leaves is said apart
+abbrev pub Fulfils : (Outcome → Type 0) → Status → Option (List ℕ) → Option (List ℕ) → Type 0
+Fulfils IsOwed WantOfMemory before now = Keeps before now
+Fulfils IsOwed StoreFault before now = Keeps before now
+Fulfils IsOwed ReadFault before now = Unit {0}
+Fulfils IsOwed WriteFault before now = (o : Outcome) × IsOwed o × AppendsPart before now o.text
+Fulfils IsOwed result before now = (o : Outcome) × IsOwed o × (result ≡ o.status) × Appends before now o.text
+
+-- the status and the bytes are those of something that is due, or memory ran out and nothing was written
+abbrev pub Completes : (Outcome → Type 0) → Status → Option (List ℕ) → Option (List ℕ) → Type 0
+Completes IsOwed result before now =
+    ((result ≡ WantOfMemory) × Keeps before now) ⊎ ((o : Outcome) × IsOwed o × (result ≡ o.status) × Appends before now o.text)
+
+-- ---- faults
+
+-- an object's fault is answered exactly where its count rose; else the count is as it was
+pub record IsCaused (fault result : Status) (before now : ℕ) : Type 0 where
+  pub failed : result ≡ fault → Rose before now
+  pub kept : result ≢ fault → now ≡ before
+
+-- the name is that of the file that the command loads first. No command that is built loads a second
+abbrev pub IsOwnName : Option Command → List ℕ → Type 0
+IsOwnName command name = first_file command ≡ Some name
+
+-- no object's count rose
+pub record NoFault (store_before store_now source_before source_now sink_before sink_now : ℕ) : Type 0 where
+  pub store : ¬ Rose store_before store_now
+  pub source : ¬ Rose source_before source_now
+  pub sink : ¬ Rose sink_before sink_now
+
+-- ---- what is left where a run was cut short
+
+-- statuses under which the input was not looked at: the files could not be opened, or are refused
+abbrev pub IsUnopened : Status → Type 0
+IsUnopened Usage = Unit {0}
+IsUnopened Refused = Unit {0}
+IsUnopened BadImage = Unit {0}
+IsUnopened StoreFault = Unit {0}
+IsUnopened WantOfMemory = Unit {0}
+IsUnopened result = ⊥
+
+-- the code of the image in the named file, which isn't too long
+pub record IsCodeOf (files : List NamedFile) (name : List ℕ) (code : Code) : Type 0 where
+  pub bytes : List ℕ
+  pub digest : List ℕ
+  pub there : file_named name files ≡ Some bytes
+  pub short : length bytes ≤ image_limit
+  pub is_read : image_read bytes ≡ Ok (code, digest)
+
+-- the command answers an input by this code: that of the image in its file
+abbrev pub RunsBy : Option (List NamedFile) → Option Command → Code → Type 0
+RunsBy files (Some (Exec i)) code = (fs : List NamedFile) × Tells files fs × IsCodeOf fs i code
+RunsBy files command code = ⊥
+
+-- the bytes that were taken have not ended the run, and what they give so far was written
+abbrev pub LeavesTaken : Option (List NamedFile) → Option Command → Option (List ℕ) → Option (List ℕ) → Option (List ℕ) → Option (List ℕ) → Type 0
+LeavesTaken files command left_before left_now before now =
+    (code : Code) × RunsBy files command code × PrintsTaken (machine_of code) left_before left_now before now
+
+-- what was written begins with what the bytes that were taken give so far, less the last 4,096 of them
+abbrev pub LeavesInTime : Option (List NamedFile) → Option Command → Option (List ℕ) → Option (List ℕ) → Option (List ℕ) → Option (List ℕ) → Type 0
+LeavesInTime files command left_before left_now before now =
+    (code : Code) × RunsBy files command code × PrintsInTime (machine_of code) left_before left_now before now

@@ -1,0 +1,96 @@
+-- What private calls say to one another: files that were loaded, why a command halts, what was printed.
+use Rattle.std.specs.Prelude.{◌≡◌, ◌≢◌, ℕ, ◌<◌, ◌≤◌, List, [], length, Option, None, Some, Result, Ok, Err, false}
+use Rattle.std.specs.Io.KnownBytes.{Appends, Keeps}
+use Rattle.vp_isa.specs.Answering.{machine_of}
+use Rattle.vp_isa.specs.declared.code.Code.{Code}
+use Rattle.vp_outside.specs.Causes.{Rose}
+use Rattle.vp_outside.specs.Content.{AppendsPart, Tells}
+use Rattle.vp_outside.specs.Loading.{NamedFile, file_named}
+use Rattle.vp_runner.specs.declared.ends.RunEnd.{RunEnd}
+use Rattle.vp_runner.specs.declared.ends.RunEnd.TheVariants as end
+use Rattle.vp_stream.specs.Run.{run}
+use Rattle.vp_cmd.specs.declared.status.Status.{Status}
+use Rattle.vp_cmd.specs.declared.status.Status.TheVariants.{Done, Usage, Refused, Violation, BadLine, BadImage, TooMuch, ReadFault, WriteFault, StoreFault, WantOfMemory}
+use Rattle.vp_cmd.specs.declared.opening.Halt.{Halt}
+use Rattle.vp_cmd.specs.declared.opening.Halt.TheVariants as halt
+use Rattle.vp_cmd.specs.declared.opening.Task.{Task}
+use Rattle.vp_cmd.specs.declared.opening.Task.TheVariants as task
+use Rattle.vp_cmd.specs.Clauses.{Fulfils, RunsBy}
+use Rattle.vp_cmd.specs.Commands.{Command, reads_input}
+use Rattle.vp_cmd.specs.Dues.{IsDue, OfImage, OfPackage}
+use Rattle.vp_cmd.specs.Outcomes.{Outcome, run_outcome}
+use Rattle.vp_read.specs.Stages.{Declared}
+use Rattle.vp_runner.specs.Sessions.{StandsFor}
+
+-- a text was printed under its status, or a proper part of it where a write failed
+abbrev pub Prints : Outcome → Status → Option (List ℕ) → Option (List ℕ) → Type 0
+Prints o WriteFault before now = AppendsPart before now o.text
+Prints o result before now = (result ≡ o.status) × Appends before now o.text
+
+-- this is said of some files: those that the store tells, where it does
+abbrev pub OfStored : Option (List NamedFile) → (List NamedFile → Outcome → Type 0) → Outcome → Type 0
+OfStored files IsOwed o = (fs : List NamedFile) × Tells files fs × IsOwed fs o
+
+-- a file with the name is there, has these bytes, and is no longer than the limit
+pub record IsStored (files : Option (List NamedFile)) (name : List ℕ) (limit : ℕ) (bytes : List ℕ) : Type 0 where
+  pub all : List NamedFile
+  pub told : Tells files all
+  pub there : file_named name all ≡ Some bytes
+  pub short : length bytes ≤ limit
+
+-- a file with the name is there, and is longer than the limit
+pub record IsTooLong (files : Option (List NamedFile)) (name : List ℕ) (limit : ℕ) : Type 0 where
+  pub all : List NamedFile
+  pub bytes : List ℕ
+  pub told : Tells files all
+  pub there : file_named name all ≡ Some bytes
+  pub long : limit < length bytes
+
+-- where a command halts with an outcome, it is one that is owed
+abbrev pub Halts : (Outcome → Type 0) → Halt → Type 0
+Halts IsOwed (halt.Due o) = IsOwed o
+Halts IsOwed halt.StoreFault = Unit {0}
+Halts IsOwed halt.WantOfMemory = Unit {0}
+
+-- a store fault comes only where the store's count rose, and this name is then the one that failed last;
+-- else the store's count and that name are as before
+abbrev pub LoadCause : {T : Type 0} → Result T Halt → Option (List ℕ) → ℕ → ℕ → List ℕ → List ℕ → Type 0
+LoadCause (Err halt.StoreFault) name before now failed_before failed_now = Rose before now × (name ≡ Some failed_now)
+LoadCause result name before now failed_before failed_now = (now ≡ before) × (failed_now ≡ failed_before)
+
+-- what a command does once its files are open: prints the usage line, prints what is due for every
+-- input, or answers the input by the code of its image
+abbrev pub IsTask : Option (List NamedFile) → Option Command → Task → Type 0
+IsTask files command task.Usage = command ≡ None
+IsTask files command (task.Print o) = (reads_input command ≡ false) × OfStored files (λ fs o. (input : List ℕ) → IsDue fs input command o) o
+IsTask files command (task.Stream s) = RunsBy files command s.code × StandsFor s.code [] s
+
+-- what is due of a file, whatever is due of what it holds
+abbrev pub ImageRefused : List ℕ → List NamedFile → Outcome → Type 0
+ImageRefused name fs o = OfImage fs name (λ code o. ⊥) o
+
+abbrev pub PackageRefused : List ℕ → List NamedFile → Outcome → Type 0
+PackageRefused name fs o = OfPackage fs name Declared (λ pkg o. ⊥) o
+
+-- the status under which a run over the input has ended
+abbrev pub status_at : RunEnd → Status
+status_at end.Done = Done
+status_at end.Violated = Violation
+status_at end.BadLine = BadLine
+status_at end.ReadFault = ReadFault
+status_at end.WriteFault = WriteFault
+status_at end.TooMuch = TooMuch
+
+-- a status under which a run over the input ends
+abbrev pub IsStreamed : Status → Type 0
+IsStreamed Usage = ⊥
+IsStreamed Refused = ⊥
+IsStreamed BadImage = ⊥
+IsStreamed StoreFault = ⊥
+IsStreamed WantOfMemory = ⊥
+IsStreamed status = Unit {0}
+
+-- a code was run over the input: that which the source told, where it did
+abbrev pub RunsOver : Code → Status → Option (List ℕ) → Option (List ℕ) → Option (List ℕ) → Type 0
+RunsOver code result left before now =
+    (bytes : List ℕ) × Tells left bytes × Fulfils (λ o. o ≡ run_outcome (run (machine_of code) bytes)) result before now
