@@ -1,13 +1,16 @@
 -- A machine at work on a record.
-use Rattle.std.proofs.Common.{◌≡◌, ℕ, zero, suc, ◌+◌, List, [], length, slice_get, Bool, true, false, cond, Option, Some, None, ◌↔◌, refl, sym, ap, ◌∙◌, subst}
-use Rattle.std.specs.Prelude.{ℤ, IsTrue}
+use Rattle.std.proofs.Common.{◌≡◌, ℕ, zero, suc, ◌+◌, List, [], ◌∷◌, length, slice_get, Bool, true, false, cond, Option, Some, None, IfSome, ◌↔◌, refl, sym, ap, ◌∙◌, subst}
+use Rattle.std.specs.Prelude.{ℤ, IsSomeAnd, IsTrue}
 use Rattle.vp_words.specs.declared.record.Due.TheVariants as due
-use Rattle.vp_words.specs.Record.{is_violation}
+use Rattle.vp_words.specs.declared.record.Kind.{Kind}
+use Rattle.vp_words.specs.Exchanges.{IsRecordOf, IsDueRecord, AreDue, state_after}
+use Rattle.vp_words.specs.Record.{field_count, is_violation, kind_due}
 use Rattle.vp_isa.specs.declared.code.Code.{Code}
 use Rattle.vp_isa.specs.declared.instr.Instr.{Instr}
 use Rattle.vp_isa.specs.declared.instr.Instr.TheVariants.{Take, Act, Halt}
 use Rattle.vp_isa.specs.Valid.{IsValid, is_take}
-use Rattle.vp_isa.specs.Machine.{MachineState, effect, step, stopped, run_to_stop, answer, due_of, HasDueCount, IsReady}
+use Rattle.vp_isa.specs.Answering.{machine_of}
+use Rattle.vp_isa.specs.Machine.{MachineState, effect, step, stopped, run_to_stop, answer, due_of, HasDueCount, IsReady, IsStanding}
 use Rattle.vp_isa.specs.Runs.{Comes, IsAtWork}
 use Rattle.vp_isa.proofs.Runs.{moves_from, step_leads, effect_length, at_take, took_within, took_cells, answer_stands, ended_due}
 
@@ -77,3 +80,20 @@ work_took code words m ready counted = record {
 
 pub work_comes : (code : Code) (m n : MachineState) → IsValid code → IsAtWork code m → Comes code m n → IsAtWork code n
 work_comes code m n v a c = subst (λ s. IsAtWork code s) (c.by 0) (work_run code (c.steps + 0) m v a)
+
+-- A machine stands after records that were due.
+
+record_stands : (code : Code) (words : List ℤ) (m : MachineState) → IsValid code → IsStanding code m → IsDueRecord (machine_of code) m words → IsStanding code (answer code words m).next
+record_stands code words m v s d = answer_stands code words m v s (going m.ended refl) (counted (kind_due (due_of code m)) d)
+  where
+    counted : (o : Option Kind) → IsSomeAnd o (λ kind. IsRecordOf code.counts kind words) → IfSome o (λ kind. length words ≡ field_count kind code.counts)
+    counted None h = absurd h
+    counted (Some kind) h = h.count
+
+    going : (b : Bool) → m.ended ≡ b → m.ended ≡ false
+    going false e = e
+    going true e = absurd (rw e at d)
+
+pub records_stand : (code : Code) (records : List (List ℤ)) (m : MachineState) → IsValid code → IsStanding code m → AreDue (machine_of code) m records → IsStanding code (state_after (machine_of code) m records)
+records_stand code [] m v s d = s
+records_stand code (words ∷ more) m v s d = records_stand code more (answer code words m).next v (record_stands code words m v s d.0) d.1

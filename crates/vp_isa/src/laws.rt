@@ -4,11 +4,13 @@ ghost use Rattle.std.specs.Prelude.{◌≡◌, ◌+◌, ◌≤◌, ◌++◌, ◌
 ghost use Rattle.vp_isa.specs.declared.instr.Instr.{Instr};
 ghost use Rattle.vp_isa.specs.declared.code.Code.{Code};
 ghost use Rattle.vp_words.specs.declared.record.Due.TheVariants.{Ended};
+ghost use Rattle.vp_words.specs.Exchanges.{AreDue, state_after};
 ghost use Rattle.vp_words.specs.Record.{is_violation};
 ghost use Rattle.vp_isa.specs.Decoding.{decoded};
 ghost use Rattle.vp_isa.specs.Encoding.{IsInstr, encoded};
 ghost use Rattle.vp_isa.specs.Valid.{IsValid, refusal};
 ghost use Rattle.vp_isa.specs.Machine.{MachineState, step, stopped, run_to_stop, answer, replied, fresh, due_of, HasDueCount, IsReady, IsStanding};
+ghost use Rattle.vp_isa.specs.Answering.{machine_of};
 ghost use Rattle.vp_isa.specs.Block.{are_plain, after, HasAt};
 ghost use Rattle.vp_isa.specs.Runs.{Comes, ComesToStop, IsAtWork, IsWithin};
 
@@ -65,12 +67,15 @@ pub fn run_is_answer()
         (answer code words m).ran ≤ length code.instrs }
 {}
 
-/// A new machine stands at its first TAKE, and after each answer it stands again or is ended. Nothing is
-/// due exactly where it is ended.
+/// A new machine stands at its first TAKE, and after each answer it stands again or is ended, and so after
+/// any records that were due, each in its turn. Nothing is due exactly where it is ended.
 pub fn machine_stands()
     ensures new { (code : Code) → IsValid code → IsStanding code (fresh code) }
     ensures next { (code : Code) (words : List ℤ) (m : MachineState) → IsReady code m →
         HasDueCount code m words → IsStanding code (answer code words m).next }
+    ensures after { (code : Code) (records : List (List ℤ)) → IsValid code →
+        AreDue (machine_of code) (fresh code) records →
+        IsStanding code (state_after (machine_of code) (fresh code) records) }
     ensures ended { (code : Code) (m : MachineState) → IsStanding code m →
         (due_of code m ≡ Ended) ↔ (m.ended ≡ true) }
 {}
