@@ -11,6 +11,7 @@ pub mod GoodControllers
 pub mod GoodEntries
 pub mod GoodTrees
 pub mod HeadingSteps
+pub mod Kept
 pub mod Lists
 pub mod NoStrays
 pub mod Steps

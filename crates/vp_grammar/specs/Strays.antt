@@ -19,6 +19,14 @@ abbrev pub is_known : Kinds → Places → Option Var → Bool
 is_known k p None = false
 is_known k p (Some v) = is_allowed k p v
 
+-- a terminal that is no variable, or whose name is declared
+abbrev pub is_declared : Terminal → Bool
+is_declared (terminal.Name s None) = false
+is_declared (terminal.Name s (Some v)) = true
+is_declared (terminal.Variable s None) = false
+is_declared (terminal.Variable s (Some v)) = true
+is_declared t = true
+
 -- the name of a control of the model
 abbrev pub is_control : Places → Option Var → Bool
 is_control p (Some (Control i)) = nat_lt i p.controls

@@ -15,6 +15,7 @@ use Rattle.vp_grammar.specs.declared.terminal.Terminal.{Terminal}
 use Rattle.vp_grammar.specs.Strays.{first_stray}
 use Rattle.vp_read.specs.declared.fault.ReadErr.{ReadErr}
 use Rattle.vp_read.specs.declared.fault.ReadErr.TheVariants as fault
+use Rattle.vp_read.specs.declared.pieces.TheConstants.{CONTROLS, INIT, CTRL, TIME, FLOW, SLACK, DOMAIN, FALLBACK}
 use Rattle.vp_grammar.specs.declared.strays.Rule.{Rule}
 use Rattle.vp_grammar.specs.declared.strays.Rule.TheVariants as rule
 use Rattle.vp_read.specs.Spelling.{AreTerminals, IsFirstBad, IsScanned, span_text}
@@ -31,7 +32,7 @@ certificates = rule.Plain in_certificate
 
 -- what may stand in the piece of a number, from 5 on; the pieces behind the 13th are certificates
 abbrev pub rule_of : ℕ → Rule
-rule_of k = if nat_lt k 8 then rule.Plain in_model else (if nat_eq k 8 then rule.Controller else (if nat_eq k 9 then rule.Plain in_time else (if nat_eq k 10 then rule.Flow else (if nat_eq k 11 then rule.Slack else (if nat_eq k 12 then rule.Plain in_domain else (if nat_eq k 13 then rule.Fallback else certificates))))))
+rule_of k = if nat_lt k CTRL then rule.Plain in_model else (if nat_eq k CTRL then rule.Controller else (if nat_eq k TIME then rule.Plain in_time else (if nat_eq k FLOW then rule.Flow else (if nat_eq k SLACK then rule.Slack else (if nat_eq k DOMAIN then rule.Plain in_domain else (if nat_eq k FALLBACK then rule.Fallback else certificates))))))
 
 -- the first variable that may not stand where it does, with its piece's number, where the first of these pieces has number k
 abbrev pub first_stray_from : Places → ℕ → List (List Terminal) → Option (Span × ℕ)
@@ -39,11 +40,11 @@ first_stray_from p k [] = None
 first_stray_from p k (q ∷ qs) = option_or (option_map (λ s. (s, k)) (first_stray (rule_of k) p 0 q)) (first_stray_from p (k + 1) qs)
 
 abbrev pub stray_of : List ℕ → List (List Terminal) → Names → Option (Span × ℕ)
-stray_of text ps names = first_stray_from (places_of names) 5 (drop 4 (known_pieces text names ps))
+stray_of text ps names = first_stray_from (places_of names) INIT (drop CONTROLS (known_pieces text names ps))
 
 -- the first of pieces 10, 11 and 13 that has not one entry for each state or control, and how many it has
 abbrev pub wrong_entries : Package → Option (ℕ × ℕ)
-wrong_entries pkg = if nat_eq (length pkg.plant.rates) (length pkg.names.states) then (if nat_eq (length pkg.plant.slack) (length pkg.names.states) then (if nat_eq (length pkg.fallback) (length pkg.names.controls) then None else Some (13, length pkg.fallback)) else Some (11, length pkg.plant.slack)) else Some (10, length pkg.plant.rates)
+wrong_entries pkg = if nat_eq (length pkg.plant.rates) (length pkg.names.states) then (if nat_eq (length pkg.plant.slack) (length pkg.names.states) then (if nat_eq (length pkg.fallback) (length pkg.names.controls) then None else Some (FALLBACK, length pkg.fallback)) else Some (SLACK, length pkg.plant.slack)) else Some (FLOW, length pkg.plant.rates)
 
 -- lists of entries that are not longer than a text
 abbrev pub AreShort : Package → Type 0
@@ -115,11 +116,11 @@ Drafts text (Err e) = Refuses text e
 
 -- nothing refuses a package by its names and entries, or the first condition that does
 abbrev pub Checks : List ℕ → Package → List (List Terminal) → Result (Unit {0}) ReadErr → Type 0
-Checks text pkg ps (Ok u) = (variable_count pkg ≤ 32) × (name_again pkg ≡ None) × (wrong_entries pkg ≡ None) × (first_stray_from (places_of pkg.names) 5 (drop 4 ps) ≡ None)
+Checks text pkg ps (Ok u) = (variable_count pkg ≤ 32) × (name_again pkg ≡ None) × (wrong_entries pkg ≡ None) × (first_stray_from (places_of pkg.names) INIT (drop CONTROLS ps) ≡ None)
 Checks text pkg ps (Err (fault.Names n)) = (32 < variable_count pkg) × (n ≡ variable_count pkg)
 Checks text pkg ps (Err (fault.Twice name)) = (variable_count pkg ≤ 32) × (name_again pkg ≡ Some name)
 Checks text pkg ps (Err (fault.Entries k n)) = (variable_count pkg ≤ 32) × (name_again pkg ≡ None) × (wrong_entries pkg ≡ Some (k, n))
-Checks text pkg ps (Err (fault.Undeclared name k)) = (variable_count pkg ≤ 32) × (name_again pkg ≡ None) × (wrong_entries pkg ≡ None) × (s : Span) × (first_stray_from (places_of pkg.names) 5 (drop 4 ps) ≡ Some (s, k)) × (name ≡ span_text text s)
+Checks text pkg ps (Err (fault.Undeclared name k)) = (variable_count pkg ≤ 32) × (name_again pkg ≡ None) × (wrong_entries pkg ≡ None) × (s : Span) × (first_stray_from (places_of pkg.names) INIT (drop CONTROLS ps) ≡ Some (s, k)) × (name ≡ span_text text s)
 Checks text pkg ps (Err fault.Memory) = Unit {0}
 Checks text pkg ps (Err e) = ⊥
 

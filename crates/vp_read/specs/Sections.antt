@@ -21,6 +21,7 @@ use Rattle.vp_grammar.specs.declared.fault.ParseErr.{ParseErr}
 use Rattle.vp_grammar.specs.declared.fault.ParseErr.TheVariants as form
 use Rattle.vp_read.specs.declared.fault.ReadErr.{ReadErr}
 use Rattle.vp_read.specs.declared.fault.ReadErr.TheVariants as fault
+use Rattle.vp_read.specs.declared.pieces.TheConstants.{HEADING, PARAMS, STATES, CONTROLS, INIT, INV, SAFE, CTRL, TIME, FLOW, SLACK, DOMAIN, FALLBACK, FIRST_CERT}
 use Rattle.vp_read.specs.Spelling.{token_text, span_text}
 use Rattle.vp_read.specs.Pieces.{piece}
 use Rattle.vp_read.specs.Naming.{known}
@@ -74,11 +75,11 @@ IsFirstUnformed ps (s ∷ ss) k behind n = ((HasForm s (piece ps k) → ⊥) × 
 
 -- among pieces 1 to 4
 abbrev pub IsUnformedHead : List ℕ → List Token → List (List Terminal) → ℕ → Type 0
-IsUnformedHead text tokens ps n = ((IsHeading text tokens (piece ps 1) → ⊥) × (n ≡ 1)) ⊎ (IsHeading text tokens (piece ps 1) × IsFirstUnformed ps head_sections 2 (λ m. ⊥) n)
+IsUnformedHead text tokens ps n = ((IsHeading text tokens (piece ps HEADING) → ⊥) × (n ≡ HEADING)) ⊎ (IsHeading text tokens (piece ps HEADING) × IsFirstUnformed ps head_sections PARAMS (λ m. ⊥) n)
 
 -- among the pieces from 5 on
 abbrev pub IsUnformedBody : List (List Terminal) → ℕ → Type 0
-IsUnformedBody ps n = IsFirstUnformed ps body_sections 5 (λ m. IsFirstNoCert 14 (drop 13 ps) m) n
+IsUnformedBody ps n = IsFirstUnformed ps body_sections INIT (λ m. IsFirstNoCert FIRST_CERT (drop FALLBACK ps) m) n
 
 -- the names that spans of a text spell
 abbrev pub spelled : List ℕ → List Span → List (List ℕ)
@@ -86,15 +87,15 @@ spelled text spans = map (λ s. span_text text s) spans
 
 -- pieces 1 to 4 declare these names
 pub record Declares (text : List ℕ) (tokens : List Token) (ps : List (List Terminal)) (names : Names) : Type 0 where
-  pub heading : IsHeading text tokens (piece ps 1)
+  pub heading : IsHeading text tokens (piece ps HEADING)
   pub param_spans : List Span
-  pub params : SpellsNames word.Params 0 (piece ps 2) param_spans
+  pub params : SpellsNames word.Params 0 (piece ps PARAMS) param_spans
   pub params_are : names.params ≡ spelled text param_spans
   pub state_spans : List Span
-  pub states : SpellsNames word.States 1 (piece ps 3) state_spans
+  pub states : SpellsNames word.States 1 (piece ps STATES) state_spans
   pub states_are : names.states ≡ spelled text state_spans
   pub control_spans : List Span
-  pub controls : SpellsNames word.Controls 1 (piece ps 4) control_spans
+  pub controls : SpellsNames word.Controls 1 (piece ps CONTROLS) control_spans
   pub controls_are : names.controls ≡ spelled text control_spans
 
 -- each piece spells the certificate at its place
@@ -105,16 +106,16 @@ AreCerts ps ts = ⊥
 
 -- the pieces from 5 on spell the parts of a package
 pub record Describes (ps : List (List Terminal)) (pkg : Package) : Type 0 where
-  pub init : SpellsFormulaPiece word.Init (piece ps 5) (formula_tree pkg.init)
-  pub inv : SpellsFormulaPiece word.Inv (piece ps 6) (formula_tree pkg.inv)
-  pub safe : SpellsFormulaPiece word.Safe (piece ps 7) (formula_tree pkg.safe)
-  pub ctrl : SpellsController (piece ps 8) (prog_tree pkg.ctrl)
-  pub time : SpellsTimes (piece ps 9) (expr_tree pkg.plant.low, expr_tree pkg.plant.high)
-  pub flow : SpellsEntries word.Flow mark.Rate (piece ps 10) (map expr_tree pkg.plant.rates)
-  pub slack : SpellsBounds (piece ps 11) (map slack_tree pkg.plant.slack)
-  pub domain : SpellsFormulaPiece word.Domain (piece ps 12) (formula_tree pkg.plant.domain)
-  pub fallback : SpellsEntries word.Fallback mark.Setting (piece ps 13) (map expr_tree pkg.fallback)
-  pub certs : AreCerts (drop 13 ps) (map cert_tree pkg.certs)
+  pub init : SpellsFormulaPiece word.Init (piece ps INIT) (formula_tree pkg.init)
+  pub inv : SpellsFormulaPiece word.Inv (piece ps INV) (formula_tree pkg.inv)
+  pub safe : SpellsFormulaPiece word.Safe (piece ps SAFE) (formula_tree pkg.safe)
+  pub ctrl : SpellsController (piece ps CTRL) (prog_tree pkg.ctrl)
+  pub time : SpellsTimes (piece ps TIME) (expr_tree pkg.plant.low, expr_tree pkg.plant.high)
+  pub flow : SpellsEntries word.Flow mark.Rate (piece ps FLOW) (map expr_tree pkg.plant.rates)
+  pub slack : SpellsBounds (piece ps SLACK) (map slack_tree pkg.plant.slack)
+  pub domain : SpellsFormulaPiece word.Domain (piece ps DOMAIN) (formula_tree pkg.plant.domain)
+  pub fallback : SpellsEntries word.Fallback mark.Setting (piece ps FALLBACK) (map expr_tree pkg.fallback)
+  pub certs : AreCerts (drop FALLBACK ps) (map cert_tree pkg.certs)
 
 -- pieces whose names have their variables
 abbrev pub known_pieces : List ℕ → Names → List (List Terminal) → List (List Terminal)

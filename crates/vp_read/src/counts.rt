@@ -4,6 +4,7 @@ ghost use Rattle.vp_terms.specs.WellFormed.{all_names};
 ghost use Rattle.vp_read.specs.Naming.{contains, first_again};
 ghost use Rattle.vp_read.specs.Reading.{AreShort, wrong_entries};
 
+use crate::pieces::{FALLBACK, FLOW, SLACK};
 use vp_terms::{Names, Package};
 
 // Whether the name stands in the list.
@@ -70,11 +71,11 @@ pub(crate) fn wrong_entries(pkg: &Package) -> Option<(u32, u32)>
     let slack = pkg.plant.slack.get().len();
     let fallback = pkg.fallback.get().len();
     if rates != states {
-        Some((10, rates as u32))
+        Some((FLOW, rates as u32))
     } else if slack != states {
-        Some((11, slack as u32))
+        Some((SLACK, slack as u32))
     } else if fallback != controls {
-        Some((13, fallback as u32))
+        Some((FALLBACK, fallback as u32))
     } else {
         None
     }

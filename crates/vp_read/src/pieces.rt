@@ -5,6 +5,35 @@ ghost use Rattle.vp_read.specs.Pieces.{cut, depth_behind, ends, first_deep, grea
 use std::alloc::{AllocError, Global};
 use vp_grammar::{Symbol, Terminal};
 
+// The numbers of the pieces of a package; from the last on they are certificates.
+pub(crate) const HEADING: u32 = 1;
+
+pub(crate) const PARAMS: u32 = 2;
+
+pub(crate) const STATES: u32 = 3;
+
+pub(crate) const CONTROLS: u32 = 4;
+
+pub(crate) const INIT: u32 = 5;
+
+pub(crate) const INV: u32 = 6;
+
+pub(crate) const SAFE: u32 = 7;
+
+pub(crate) const CTRL: u32 = 8;
+
+pub(crate) const TIME: u32 = 9;
+
+pub(crate) const FLOW: u32 = 10;
+
+pub(crate) const SLACK: u32 = 11;
+
+pub(crate) const DOMAIN: u32 = 12;
+
+pub(crate) const FALLBACK: u32 = 13;
+
+pub(crate) const FIRST_CERT: u32 = 14;
+
 // The most terminals of a piece, and the most open brackets.
 const MOST_TERMINALS: usize = 2048;
 

@@ -12,7 +12,7 @@ use crate::counts::{name_again, wrong_entries};
 use crate::fault::ReadErr;
 use crate::laws::packages_are_well_formed;
 use crate::naming::{Scope, known_terminals, string_of};
-use crate::pieces::{cut, first_deep};
+use crate::pieces::{CONTROLS, cut, first_deep};
 use crate::sections::{body, head};
 use crate::strays::first_stray_from;
 use crate::terminals::terminals;
@@ -85,9 +85,9 @@ fn draft(alloc: Global, text: &[u8]) -> Result<(Package, Vec<Vec<Terminal>>), Re
 
 // The pieces from the fifth on.
 fn from_fifth(pieces: &[Vec<Terminal>]) -> &[Vec<Terminal>]
-    ensures { result.now ≡ drop 4 pieces.now }
+    ensures { result.now ≡ drop CONTROLS pieces.now }
 {
-    match pieces.get(4..) {
+    match pieces.get(CONTROLS as usize..) {
         Some(behind) => behind,
         None => &[],
     }

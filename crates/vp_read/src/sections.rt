@@ -14,7 +14,10 @@ ghost use Rattle.vp_read.specs.Sections.{IsHeading, IsListed, ReadsBody, ReadsCe
 
 use crate::fault::ReadErr;
 use crate::naming::string_of;
-use crate::pieces::piece;
+use crate::pieces::{
+    CONTROLS, CTRL, DOMAIN, FALLBACK, FIRST_CERT, FLOW, HEADING, INIT, INV, PARAMS, SAFE, SLACK,
+    STATES, TIME, piece,
+};
 use crate::terminals::token_text;
 use std::alloc::{AllocError, Global};
 use vp_grammar::{
@@ -52,21 +55,21 @@ fn condition(
 
 // The controller.
 fn controller(alloc: Global, pieces: &[Vec<Terminal>]) -> Result<Prog, ReadErr>
-    ensures { ReadsPiece prog_tree (SpellsController (piece (map items pieces.now) 8)) 8 result }
+    ensures { ReadsPiece prog_tree (SpellsController (piece (map items pieces.now) CTRL)) CTRL result }
 {
-    match whole_controller(alloc, piece(pieces, 8)) {
+    match whole_controller(alloc, piece(pieces, CTRL as usize)) {
         Ok(program) => Ok(program),
-        Err(why) => Err(refusal(8, why)),
+        Err(why) => Err(refusal(CTRL, why)),
     }
 }
 
 // The bounds of the time.
 fn times(alloc: Global, pieces: &[Vec<Terminal>]) -> Result<(Expr, Expr), ReadErr>
-    ensures { ReadsPiece (λ x. (expr_tree x.0, expr_tree x.1)) (SpellsTimes (piece (map items pieces.now) 9)) 9 result }
+    ensures { ReadsPiece (λ x. (expr_tree x.0, expr_tree x.1)) (SpellsTimes (piece (map items pieces.now) TIME)) TIME result }
 {
-    match vp_grammar::times(alloc, piece(pieces, 9)) {
+    match vp_grammar::times(alloc, piece(pieces, TIME as usize)) {
         Ok(bounds) => Ok(bounds),
-        Err(why) => Err(refusal(9, why)),
+        Err(why) => Err(refusal(TIME, why)),
     }
 }
 
@@ -92,12 +95,12 @@ fn entries(
 // The slack.
 fn bounds(alloc: Global, pieces: &[Vec<Terminal>]) -> Result<Vec<Slack>, ReadErr>
     requires { All (λ v. length v.items ≤ 1048576) pieces.now }
-    ensures reads { ReadsPiece (λ v. map slack_tree v.items) (SpellsBounds (piece (map items pieces.now) 11)) 11 result }
+    ensures reads { ReadsPiece (λ v. map slack_tree v.items) (SpellsBounds (piece (map items pieces.now) SLACK)) SLACK result }
     ensures few { IfOk result (λ v. length v.items ≤ 1048576) }
 {
-    match vp_grammar::bounds(alloc, piece(pieces, 11)) {
+    match vp_grammar::bounds(alloc, piece(pieces, SLACK as usize)) {
         Ok(slack) => Ok(slack),
-        Err(why) => Err(refusal(11, why)),
+        Err(why) => Err(refusal(SLACK, why)),
     }
 }
 
@@ -169,12 +172,12 @@ pub(crate) fn head(
     ensures reads { ReadsHead text.now tokens.now (map items pieces.now) result }
     ensures few { IfOk result AreFew }
 {
-    if !is_heading(text, tokens, piece(pieces, 1)) {
-        return Err(ReadErr::Section { piece: 1 });
+    if !is_heading(text, tokens, piece(pieces, HEADING as usize)) {
+        return Err(ReadErr::Section { piece: HEADING });
     }
-    let params = listed(alloc, text, Word::Params, 0, 2, pieces)?;
-    let states = listed(alloc, text, Word::States, 1, 3, pieces)?;
-    let controls = listed(alloc, text, Word::Controls, 1, 4, pieces)?;
+    let params = listed(alloc, text, Word::Params, 0, PARAMS, pieces)?;
+    let states = listed(alloc, text, Word::States, 1, STATES, pieces)?;
+    let controls = listed(alloc, text, Word::Controls, 1, CONTROLS, pieces)?;
     Ok(Names {
         params,
         states,
@@ -185,13 +188,13 @@ pub(crate) fn head(
 // The certificates of the pieces behind the 13th.
 fn certificates(alloc: Global, pieces: &[Vec<Terminal>]) -> Result<Vec<Cert>, ReadErr>
     requires { length pieces.now ≤ 1048576 }
-    ensures { ReadsCerts 14 (map items pieces.now) result }
+    ensures { ReadsCerts FIRST_CERT (map items pieces.now) result }
 {
     let mut certs = Vec::new(alloc);
     for (i, piece) in pieces.iter().enumerate() {
         match whole_certificate(alloc, piece) {
             Ok(cert) => certs.push(cert)?,
-            Err(why) => return Err(refusal(i as u32 + 14, why)),
+            Err(why) => return Err(refusal(i as u32 + FIRST_CERT, why)),
         }
     }
     Ok(certs)
@@ -199,9 +202,9 @@ fn certificates(alloc: Global, pieces: &[Vec<Terminal>]) -> Result<Vec<Cert>, Re
 
 // The pieces behind the 13th.
 fn behind(pieces: &[Vec<Terminal>]) -> &[Vec<Terminal>]
-    ensures { result.now ≡ drop 13 pieces.now }
+    ensures { result.now ≡ drop FALLBACK pieces.now }
 {
-    match pieces.get(13..) {
+    match pieces.get(FALLBACK as usize..) {
         Some(behind) => behind,
         None => &[],
     }
@@ -218,15 +221,15 @@ pub(crate) fn body(
     ensures reads { ReadsBody names (map items pieces.now) result }
     ensures short { IfOk result AreShort }
 {
-    let init = condition(alloc, Word::Init, 5, pieces)?;
-    let inv = condition(alloc, Word::Inv, 6, pieces)?;
-    let safe = condition(alloc, Word::Safe, 7, pieces)?;
+    let init = condition(alloc, Word::Init, INIT, pieces)?;
+    let inv = condition(alloc, Word::Inv, INV, pieces)?;
+    let safe = condition(alloc, Word::Safe, SAFE, pieces)?;
     let ctrl = controller(alloc, pieces)?;
     let (low, high) = times(alloc, pieces)?;
-    let rates = entries(alloc, Word::Flow, Mark::Rate, 10, pieces)?;
+    let rates = entries(alloc, Word::Flow, Mark::Rate, FLOW, pieces)?;
     let slack = bounds(alloc, pieces)?;
-    let domain = condition(alloc, Word::Domain, 12, pieces)?;
-    let fallback = entries(alloc, Word::Fallback, Mark::Setting, 13, pieces)?;
+    let domain = condition(alloc, Word::Domain, DOMAIN, pieces)?;
+    let fallback = entries(alloc, Word::Fallback, Mark::Setting, FALLBACK, pieces)?;
     let certs = certificates(alloc, behind(pieces))?;
     Ok(Package {
         names,

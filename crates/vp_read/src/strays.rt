@@ -7,6 +7,7 @@ ghost use Rattle.vp_read.specs.Reading.{ChecksVariables, first_stray_from, rule_
 
 use crate::fault::ReadErr;
 use crate::naming::string_of;
+use crate::pieces::{CTRL, DOMAIN, FALLBACK, FLOW, INIT, SAFE, SLACK, TIME};
 use std::alloc::Global;
 use vp_grammar::{Rule, Span, Terminal, first_stray};
 use vp_terms::{Kinds, NameText, Places};
@@ -35,17 +36,17 @@ pub fn check_variables(
 }
 
 // What may stand in the piece of a package of a number, from 5 on.
-fn rule_of(number: usize) -> Rule
+fn rule_of(number: u32) -> Rule
     ensures { result ≡ rule_of number }
 {
     match number {
-        0..=7 => Rule::Plain(Kinds::MODEL),
-        8 => Rule::Controller,
-        9 => Rule::Plain(Kinds::TIME),
-        10 => Rule::Flow,
-        11 => Rule::Slack,
-        12 => Rule::Plain(Kinds::DOMAIN),
-        13 => Rule::Fallback,
+        0..=SAFE => Rule::Plain(Kinds::MODEL),
+        CTRL => Rule::Controller,
+        TIME => Rule::Plain(Kinds::TIME),
+        FLOW => Rule::Flow,
+        SLACK => Rule::Slack,
+        DOMAIN => Rule::Plain(Kinds::DOMAIN),
+        FALLBACK => Rule::Fallback,
         _ => Rule::Plain(Kinds::CERTIFICATE),
     }
 }
@@ -55,11 +56,12 @@ fn rule_of(number: usize) -> Rule
 pub(crate) fn first_stray_from(places: Places, pieces: &[Vec<Terminal>]) -> Option<(Span, u32)>
     requires few { length pieces.now ≤ 1048576 }
     requires short { All (λ v. length v.items ≤ 1048576) pieces.now }
-    ensures { result ≡ first_stray_from places 5 (map items pieces.now) }
+    ensures { result ≡ first_stray_from places INIT (map items pieces.now) }
 {
     for (i, piece) in pieces.iter().enumerate() {
-        if let Some(span) = first_stray(rule_of(i + 5), places, piece) {
-            return Some((span, i as u32 + 5));
+        let number = i as u32 + INIT;
+        if let Some(span) = first_stray(rule_of(number), places, piece) {
+            return Some((span, number));
         }
     }
     None
