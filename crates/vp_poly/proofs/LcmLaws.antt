@@ -1,5 +1,5 @@
 -- Laws of the least common multiple.
-use Rattle.std.proofs.Common.{◌≡◌, ℕ, zero, suc, ◌*◌, ◌/◌, ◌%◌, ◌<◌, ◌^◌, ◌==◌, Bool, true, false, cond, refl, sym, ap, ◌∙◌, arith, min}
+use Rattle.std.proofs.Common.{◌≡◌, ℕ, zero, suc, ◌*◌, ◌/◌, ◌%◌, ◌<◌, ◌^◌, ◌==◌, Bool, true, false, cond, refl, sym, ap, ◌∙◌, subst, arith, min}
 use Rattle.std.proofs.Math.Nat.{mul-pos, mul-div_cancel, pow-suc, pow-zero}
 use Rattle.std.specs.Int.{IsGcd}
 use Rattle.std.proofs.lemmas.Bool.{eqb-true, eqb-false}
@@ -98,3 +98,17 @@ lcm-product a b h =
     let ea : gcd a b * (a / gcd a b) ≡ a = omega arith in
     let e = ap (λ (n : ℕ). n * b) ea in
     omega arith
+
+pub lcm-shares : (a b : ℕ) → 0 < a → 0 < b → Shares a b (lcm a b / a) (lcm a b / b)
+lcm-shares a b h k =
+    let s = shares_are a b h k in
+    record {
+      left = refl;
+      right = refl;
+      left_whole = sym (ap (λ (n : ℕ). n * a) s.left) ∙ s.left_whole;
+      right_whole = sym (ap (λ (n : ℕ). n * b) s.right) ∙ s.right_whole;
+      left_positive = subst (λ (n : ℕ). 0 < n) s.left s.left_positive;
+      right_positive = subst (λ (n : ℕ). 0 < n) s.right s.right_positive;
+    }
+
+pub ruleset multiples = (lcm-shares, divisor_positive)

@@ -23,4 +23,10 @@ pub mod NumberLaws
 pub mod PowerLaws
 pub mod PlainLaws
 pub mod Lawful
+pub mod Alike
+pub mod Pointing
+pub mod Replacing
+pub mod Following
+pub mod Splitting
+pub mod WholeLaws
 pub mod Saturation

@@ -13,7 +13,7 @@ use Rattle.std.proofs.lemmas.List.Sorted.{length_permutation, All-permutation, C
 use Rattle.std.proofs.lemmas.List.Sums.{sum_by-cons, get_or-le-sum_by, sum-map}
 use Rattle.vp_terms.specs.Rational.{Rational, whole, product, power, Equals}
 use Rattle.vp_terms.proofs.RationalLaws.{chain, Equals-refl, Equals-sym, Equals-product}
-use Rattle.vp_poly.specs.Places.{IsBelow, IsRenaming, before_renaming, point_before}
+use Rattle.vp_poly.specs.Places.{IsBelow, HasOnly, IsRenaming, SendsAllowed, before_renaming, point_before}
 use Rattle.vp_poly.specs.Renaming.{place_of, moved}
 use Rattle.vp_poly.specs.Value.{Point, powers_value}
 use Rattle.vp_poly.proofs.ProductValues.{product-assoc, product-comm}
@@ -273,6 +273,22 @@ IsBelow-moved v w to p h b f = record { none = λ j le. case j le (lt_or j) }
         let high : v ≤ place_of to j = elim (cases_lt (place_of to j) v) [ inl low ↦ absurd (omega (arith, f (place_of to j) low)) | inr ge ↦ ge ] in
         get_or-moved to p j lt ∙ b.none (place_of to j) high
     case j le (inr high) = get_or-eq_default (moved to p) 0 (let n : length (moved to p) ≤ j = omega (arith, length-moved to p) in n)
+
+-- ---- places that pass a test
+
+pub HasOnly-moved : (f g : ℕ → Bool) (to p : List ℕ) → IsRenaming to → HasOnly f p → SendsAllowed to f g → HasOnly g (moved to p)
+HasOnly-moved f g to p h b s = record { others = λ j e. case j e (cases_lt j 32) }
+  where
+    excluded : (v w : Bool) → (v ≡ true → w ≡ true) → w ≡ false → v ≡ false
+    excluded true w h e = absurd (let t = h refl in cc)
+    excluded false w h e = refl
+
+    case : (j : ℕ) → g j ≡ false → (j < 32) ⊎ (32 ≤ j) → get_or (moved to p) j 0 ≡ 0
+    case j e (inl lt) =
+        let t = IsTurned-of to h in
+        let off : f (place_of to j) ≡ false = excluded (f (place_of to j)) (g j) (λ i. sym (ap g (t.there j lt)) ∙ s (place_of to j) (t.source j lt) i) e in
+        get_or-moved to p j lt ∙ b.others (place_of to j) off
+    case j e (inr high) = get_or-eq_default (moved to p) 0 (let n : length (moved to p) ≤ j = omega (arith, length-moved to p) in n)
 
 pub ruleset moving = (in_range, moved-step, moved-all)
 

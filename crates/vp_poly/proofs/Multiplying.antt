@@ -10,7 +10,7 @@ use Rattle.vp_poly.proofs.SplitLaws.{split_sum-cong, split_sum-turned}
 use Rattle.vp_poly.proofs.RowLaws.{coef-product, IsPoly-with_rows}
 use Rattle.vp_poly.proofs.ProductValues.{value_at-product, product-comm}
 use Rattle.vp_poly.proofs.SizeLaws.{IsWithin-product}
-use Rattle.vp_poly.proofs.BelowLaws.{AreBelow-product}
+use Rattle.vp_poly.proofs.BelowLaws.{AreBelow-product, HaveOnly-product}
 
 pub IsProduct-rows : (xs ys zs : List Term) → zs ≡ with_rows [] xs ys → IsPoly xs → IsPoly ys → norm xs * norm ys < 2 ^ 126 → length xs * length ys < 2 ^ 32 → degree xs + degree ys ≤ 48 → IsProduct xs ys zs
 IsProduct-rows xs ys zs e p q small few low = subst (IsProduct xs ys) (sym e) (record {
@@ -19,6 +19,7 @@ IsProduct-rows xs ys zs e p q small few low = subst (IsProduct xs ys) (sym e) (r
   poly = IsPoly-with_rows xs ys p q small few low;
   sizes = IsWithin-product xs ys;
   places = λ v a b. AreBelow-product v xs ys a b;
+  only = λ f a b. HaveOnly-product f xs ys a b;
 })
 
 -- the factors in the other order
@@ -29,6 +30,7 @@ IsProduct-turned xs ys zs p = record {
   poly = p.poly;
   sizes = record { norm_le = omega (arith, p.sizes.norm_le); degree_le = omega (arith, p.sizes.degree_le); length_le = omega (arith, p.sizes.length_le) };
   places = λ v a b. p.places v b a;
+  only = λ f a b. p.only f b a;
 }
 
 pub IsProduct-turned_rows : (xs ys zs : List Term) → zs ≡ with_rows [] ys xs → IsPoly xs → IsPoly ys → norm xs * norm ys < 2 ^ 126 → length xs * length ys < 2 ^ 32 → degree xs + degree ys ≤ 48 → IsProduct xs ys zs

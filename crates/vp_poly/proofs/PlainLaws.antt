@@ -1,24 +1,27 @@
 -- Variables that stand for themselves.
-use Rattle.std.proofs.Common.{◌≡◌, ◌≢◌, ℕ, zero, suc, ◌+◌, ◌<◌, ◌≤◌, List, [], ◌∷◌, ◌++◌, map, sum, replicate, set, slice_get, slice_set, IfSome, refl, sym, ap, ◌∙◌, subst, arith, ℤ, pos, ◌+ℤ◌}
+use Rattle.std.proofs.Common.{◌≡◌, ◌≢◌, ℕ, zero, suc, ◌+◌, ◌<◌, ◌≤◌, List, [], ◌∷◌, ◌++◌, map, sum, replicate, set, slice_get, slice_set, IfSome, IsTrue, Bool, true, false, refl, sym, ap, ◌∙◌, subst, arith, ℤ, pos, ◌+ℤ◌}
 use Rattle.std.specs.List.{range_with_len, All}
 use Rattle.std.proofs.lemmas.Int.{ints}
 use Rattle.std.proofs.lemmas.List.{length-map, get_or-set_other}
 use Rattle.std.proofs.lemmas.List.Elements.{All-cons}
 use Rattle.std.proofs.lemmas.List.FromFn.{length-range_with_len, map-range_with_len_more}
-use Rattle.vp_terms.specs.Places.{place}
+use Rattle.vp_terms.specs.Meaning.{Assignment}
+use Rattle.vp_terms.specs.Places.{place, has_variable}
+use Rattle.vp_terms.specs.declared.expr.Var.{Var}
 use Rattle.vp_terms.specs.Rational.{Rational, whole, product, Equals}
 use Rattle.vp_terms.proofs.RationalLaws.{chain, Equals-sym, Equals-product, sum-zero}
 use Rattle.vp_terms.specs.declared.expr.Places.{Places}
 use Rattle.vp_poly.specs.declared.scaled.Scaled.{Scaled}
 use Rattle.vp_poly.specs.Poly.{only_at}
-use Rattle.vp_poly.specs.Places.{IsBelow}
+use Rattle.vp_poly.specs.Places.{IsBelow, HasOnly, HaveOnly}
+use Rattle.vp_poly.specs.Points.{IsAt}
 use Rattle.vp_poly.specs.Value.{Point, powers_value, value_at}
 use Rattle.vp_poly.specs.Coefficient.{fraction_at}
 use Rattle.vp_poly.specs.Times.{IsTimes, HasCoefficients}
-use Rattle.vp_poly.specs.Canonical.{IsEntry, IsEnvironment, StandsFor, StandsAt, unit, itself, variables, values_at}
+use Rattle.vp_poly.specs.Canonical.{IsEntry, IsEnvironment, StandsFor, StandsAt, StandsWithin, unit, itself, variables}
 use Rattle.vp_poly.proofs.PolyLaws.{norm-cons}
 use Rattle.vp_poly.proofs.RowLaws.{sum-cons}
-use Rattle.vp_poly.proofs.BelowLaws.{AreBelow-cons, AreBelow-nil}
+use Rattle.vp_poly.proofs.BelowLaws.{AreBelow-cons, AreBelow-nil, HaveOnly-cons, HaveOnly-nil}
 use Rattle.vp_poly.proofs.ProductValues.{product-one, product-comm}
 use Rattle.vp_poly.proofs.TimesLaws.{IsTimes-fraction, IsTimes-only_at}
 use Rattle.vp_poly.proofs.NumberLaws.{powers_value-none}
@@ -111,18 +114,37 @@ at_place P (suc n) a (suc i) h =
 
 pub StandsFor-itself : (p : Places) (n : ℕ) → StandsFor p (map itself (range_with_len 0 n)) (variables p)
 StandsFor-itself p n = record {
-  each = λ v.
+  each = λ v g.
       let e : 0 + place p v ≡ place p v = omega arith in
       at_place (λ s. HasCoefficients s.weight.den s.poly (variables p v)) n 0 (place p v) (λ lt.
       subst (λ (k : ℕ). HasCoefficients 1 (itself k).poly (variables p v)) (sym e) (coefficients-itself (place p v)));
 }
 
-pub StandsAt-itself : (p : Places) (n : ℕ) (x : Point) → n ≤ 32 → StandsAt p (map itself (range_with_len 0 n)) x (values_at p x)
-StandsAt-itself p n x le = record {
-  each = λ v.
+pub StandsAt-itself : (p : Places) (n : ℕ) (x : Point) (a : Assignment) → n ≤ 32 → IsAt p x a → StandsAt p (map itself (range_with_len 0 n)) x a
+StandsAt-itself p n x a le h = record {
+  each = λ v g.
       let e : 0 + place p v ≡ place p v = omega arith in
-      at_place (λ s. IsTimes s.weight.den (value_at s.poly x) (x (place p v))) n 0 (place p v) (λ lt.
-      subst (λ (k : ℕ). IsTimes 1 (value_at (itself k).poly x) (x (place p v))) (sym e) (one_times _ _ (value_at-itself (place p v) x (omega arith))));
+      at_place (λ s. IsTimes s.weight.den (value_at s.poly x) (a v)) n 0 (place p v) (λ lt.
+      subst (λ (k : ℕ). IsTimes 1 (value_at (itself k).poly x) (a v)) (sym e) (one_times _ _ (chain (value_at-itself (place p v) x (omega arith)) (h.each v g))));
+}
+
+-- the variable at place k has that place alone
+HasOnly-unit : (f : ℕ → Bool) (k : ℕ) → IsTrue (f k) → HasOnly f (unit k)
+HasOnly-unit f k h = record {
+  others = λ j e.
+      let apart : j ≢ k = λ s. let t = ap f s in absurd (cc) in
+      get_or-set_other (replicate 32 0) k j 1 0 apart ∙ get_or-same 0 32 j;
+}
+
+HaveOnly-itself : (f : ℕ → Bool) (k : ℕ) → IsTrue (f k) → HaveOnly f (itself k).poly
+HaveOnly-itself f k h = HaveOnly-cons f (record { mono = record { powers = unit k }; coef = pos 1 }) [] (HasOnly-unit f k h) (HaveOnly-nil f)
+
+StandsWithin-itself : (p : Places) (n : ℕ) (used : Var → Bool) (allowed : ℕ → Bool) → ((v : Var) → IsTrue (used v) → IsTrue (allowed (place p v))) → StandsWithin p (map itself (range_with_len 0 n)) used allowed
+StandsWithin-itself p n used allowed h = record {
+  each = λ v g.
+      let e : 0 + place p v ≡ place p v = omega arith in
+      at_place (λ s. HaveOnly allowed s.poly) n 0 (place p v) (λ lt.
+      subst (λ (k : ℕ). HaveOnly allowed (itself k).poly) (sym e) (HaveOnly-itself allowed (place p v) (h v g)));
 }
 
 -- where `es` are those that were made, i of them
@@ -135,5 +157,8 @@ IsEnvironment-made es i n e f = subst (IsEnvironment n) (sym (e ∙ ap (λ (k : 
 pub StandsFor-made : (p : Places) (es : List Scaled) (i : ℕ) → es ≡ map itself (range_with_len 0 i) → StandsFor p es (variables p)
 StandsFor-made p es i e = subst (λ (l : List Scaled). StandsFor p l (variables p)) (sym e) (StandsFor-itself p i)
 
-pub StandsAt-made : (p : Places) (es : List Scaled) (i : ℕ) (x : Point) → es ≡ map itself (range_with_len 0 i) → i ≤ 32 → StandsAt p es x (values_at p x)
-StandsAt-made p es i x e le = subst (λ (l : List Scaled). StandsAt p l x (values_at p x)) (sym e) (StandsAt-itself p i x le)
+pub StandsAt-made : (p : Places) (es : List Scaled) (i : ℕ) (x : Point) (a : Assignment) → es ≡ map itself (range_with_len 0 i) → i ≤ 32 → IsAt p x a → StandsAt p es x a
+StandsAt-made p es i x a e le h = subst (λ (l : List Scaled). StandsAt p l x a) (sym e) (StandsAt-itself p i x a le h)
+
+pub StandsWithin-made : (p : Places) (es : List Scaled) (i : ℕ) (used : Var → Bool) (allowed : ℕ → Bool) → es ≡ map itself (range_with_len 0 i) → ((v : Var) → IsTrue (used v) → IsTrue (allowed (place p v))) → StandsWithin p es used allowed
+StandsWithin-made p es i used allowed e h = subst (λ (l : List Scaled). StandsWithin p l used allowed) (sym e) (StandsWithin-itself p i used allowed h)

@@ -63,7 +63,7 @@ IsBefore-scaled : (k c : ℤ) (t : Term) (us : List Term) → IsBefore t us → 
 IsBefore-scaled k c t [] h = tt
 IsBefore-scaled k c t (u ∷ us) h = (h.0, IsBefore-scaled k c t us h.1)
 
-IsOrdered-scaled : (k : ℤ) (ts : List Term) → k ≢ pos 0 → IsOrdered ts → IsOrdered (scaled k ts)
+pub IsOrdered-scaled : (k : ℤ) (ts : List Term) → k ≢ pos 0 → IsOrdered ts → IsOrdered (scaled k ts)
 IsOrdered-scaled k [] n h = tt
 IsOrdered-scaled k (t ∷ ts) n h =
     (record { not_zero = nonzero_product k t.coef n h.0.not_zero; low = h.0.low; places = h.0.places; before = IsBefore-scaled k (k *ℤ t.coef) t ts h.0.before }, IsOrdered-scaled k ts n h.1)

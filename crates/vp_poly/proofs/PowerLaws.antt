@@ -1,18 +1,18 @@
 -- What powers stand on.
-use Rattle.std.proofs.Common.{◌≡◌, ℕ, zero, suc, ◌+◌, ◌-◌, ◌*◌, ◌<◌, ◌≤◌, ◌^◌, true, List, [], length, replicate, refl, sym, ap, subst, arith, pos, ◌*ℤ◌, get_or}
+use Rattle.std.proofs.Common.{◌≡◌, ℕ, zero, suc, ◌+◌, ◌-◌, ◌*◌, ◌<◌, ◌≤◌, ◌^◌, Bool, true, List, [], length, replicate, refl, sym, ap, subst, arith, pos, ◌*ℤ◌, get_or}
 use Rattle.std.proofs.Math.Nat.{pow-suc, pow-succ', pow-zero, mul-pos, mul-le-mul_left, mul-le-mul_right}
 use Rattle.vp_terms.specs.Rational.{Rational, whole, product, power, Equals}
 use Rattle.vp_poly.specs.declared.mono.Term.{Term}
 use Rattle.vp_poly.specs.Poly.{Powers, coef, norm, degree, IsPoly, IsWithin}
 use Rattle.vp_poly.specs.Product.{split_sum}
-use Rattle.vp_poly.specs.Places.{AreBelow}
+use Rattle.vp_poly.specs.Places.{AreBelow, HaveOnly}
 use Rattle.vp_poly.specs.Value.{Point, value_at}
 use Rattle.vp_poly.specs.Coefficient.{Coefficients, constant, times, to_power}
 use Rattle.vp_poly.specs.Times.{IsTimes, HasCoefficients}
 use Rattle.vp_poly.specs.Weights.{Weights, fits, weight_power}
 use Rattle.vp_poly.specs.Canonical.{IsWeighed}
 use Rattle.vp_poly.specs.Unity.{unity, HasPower}
-use Rattle.vp_poly.proofs.BelowLaws.{AreBelow-cons, AreBelow-nil}
+use Rattle.vp_poly.proofs.BelowLaws.{AreBelow-cons, AreBelow-nil, HaveOnly-cons, HaveOnly-nil}
 use Rattle.vp_poly.proofs.TimesLaws.{HasCoefficients-product, IsTimes-product, IsTimes-same}
 use Rattle.vp_poly.proofs.NumberLaws.{HasCoefficients-number, number-values}
 use Rattle.vp_poly.proofs.WeighedLaws.{IsUnder-fits, norm_if-true, times_le}
@@ -100,6 +100,7 @@ HasPower-none ts ps w e p = record {
   poly = p;
   within = rw e (record { norm_le = omega (arith, pow_zero w.norm); degree_le = omega arith; length_le = omega (arith, pow_zero w.terms) });
   places = λ v b. rw e (AreBelow-cons v (record { mono = record { powers = replicate 32 0 }; coef = pos 1 }) [] (record { none = λ k le. get_or-same 0 32 k }) (AreBelow-nil v));
+  only = λ f b. rw e (HaveOnly-cons f (record { mono = record { powers = replicate 32 0 }; coef = pos 1 }) [] (record { others = λ k no_place. get_or-same 0 32 k }) (HaveOnly-nil f));
   coefficients = λ f h. subst (λ (d : ℕ). HasCoefficients d ps (constant (whole (pos 1)))) (sym (pow_zero w.den)) (HasCoefficients-number (pos 1) (pos 1) ps (whole (pos 1)) e refl refl);
   values = λ x q h. subst (λ (d : ℕ). IsTimes d (value_at ps x) (whole (pos 1))) (sym (pow_zero w.den)) (number-values (pos 1) (pos 1) ps (record { mono = record { powers = replicate 32 0 }; coef = pos 1 }) _ (whole (pos 1)) x refl e refl refl refl);
 }
@@ -108,8 +109,9 @@ power_next : (ts ps zs : List Term) (w : Weights) (i : ℕ) → IsWeighed ts w �
     ((m : Powers) → coef zs m ≡ split_sum m (λ a b. coef ts a *ℤ coef ps b)) →
     ((a : Point) → Equals (value_at zs a) (product (value_at ts a) (value_at ps a))) →
     IsWithin zs (norm ts * norm ps) (degree ts + degree ps) (length ts * length ps) →
-    ((v : ℕ) → AreBelow v ts → AreBelow v ps → AreBelow v zs) → HasPower ts w (suc i) zs
-power_next ts ps zs w i h p poly cs vs size below = record {
+    ((v : ℕ) → AreBelow v ts → AreBelow v ps → AreBelow v zs) →
+    ((f : ℕ → Bool) → HaveOnly f ts → HaveOnly f ps → HaveOnly f zs) → HasPower ts w (suc i) zs
+power_next ts ps zs w i h p poly cs vs size below only = record {
   poly = poly;
   within = record {
     norm_le = omega (arith, size.norm_le, times_le (norm ts) (norm ps) w.norm (w.norm ^ i) h.within.norm_le p.within.norm_le, pow-succ' w.norm i);
@@ -117,6 +119,7 @@ power_next ts ps zs w i h p poly cs vs size below = record {
     length_le = omega (arith, size.length_le, times_le (length ts) (length ps) w.terms (w.terms ^ i) h.within.length_le p.within.length_le, pow-succ' w.terms i);
   };
   places = λ v b. below v b (p.places v b);
+  only = λ f b. only f b (p.only f b);
   coefficients = λ f g. subst (λ (d : ℕ). HasCoefficients d zs (times f (to_power f i))) (sym (pow-succ' w.den i)) (HasCoefficients-product w.den (w.den ^ i) ts ps zs f (to_power f i) g (p.coefficients f g) cs);
   values = λ x q g. subst (λ (d : ℕ). IsTimes d (value_at zs x) (product q (power q i))) (sym (pow-succ' w.den i)) (IsTimes-same (w.den * w.den ^ i) _ _ _ (vs x) (IsTimes-product w.den (w.den ^ i) _ _ q (power q i) g (p.values x q g)));
 }
@@ -125,10 +128,11 @@ pub HasPower-more : (ts ps zs : List Term) (w : Weights) (i : ℕ) → IsWeighed
     ((m : Powers) → coef zs m ≡ split_sum m (λ a b. coef ts a *ℤ coef ps b)) →
     ((a : Point) → Equals (value_at zs a) (product (value_at ts a) (value_at ps a))) →
     IsWithin zs (norm ts * norm ps) (degree ts + degree ps) (length ts * length ps) →
-    ((v : ℕ) → AreBelow v ts → AreBelow v ps → AreBelow v zs) → HasPower ts w (i + 1) zs
-HasPower-more ts ps zs w i h p poly cs vs size below =
+    ((v : ℕ) → AreBelow v ts → AreBelow v ps → AreBelow v zs) →
+    ((f : ℕ → Bool) → HaveOnly f ts → HaveOnly f ps → HaveOnly f zs) → HasPower ts w (i + 1) zs
+HasPower-more ts ps zs w i h p poly cs vs size below only =
     let e : suc i ≡ i + 1 = omega arith in
-    subst (λ (n : ℕ). HasPower ts w n zs) e (power_next ts ps zs w i h p poly cs vs size below)
+    subst (λ (n : ℕ). HasPower ts w n zs) e (power_next ts ps zs w i h p poly cs vs size below only)
 
 -- ---- the last power
 
@@ -136,6 +140,7 @@ pub record IsRaised (ts : List Term) (w r : Weights) (k : ℕ) (ps : List Term) 
   pub weighed : IsWeighed ps r
   pub canonical : IsPoly ps
   pub places : (v : ℕ) → AreBelow v ts → AreBelow v ps
+  pub only : (f : ℕ → Bool) → HaveOnly f ts → HaveOnly f ps
   pub coefficients : (f : Coefficients) → HasCoefficients w.den ts f → HasCoefficients r.den ps (to_power f k)
   pub values : (x : Point) (q : Rational) → IsTimes w.den (value_at ts x) q → IsTimes r.den (value_at ps x) (power q k)
 
@@ -155,6 +160,7 @@ raised ts ps w k f p =
       };
       canonical = p.poly;
       places = p.places;
+      only = p.only;
       coefficients = λ g h. subst (λ (d : ℕ). HasCoefficients d ps (to_power g k)) r.den (p.coefficients g h);
       values = λ x q h. subst (λ (d : ℕ). IsTimes d (value_at ps x) (power q k)) r.den (p.values x q h);
     }

@@ -8,7 +8,7 @@ use Rattle.vp_poly.specs.declared.mono.Term.{Term}
 use Rattle.vp_poly.specs.Poly.{Powers, coef, norm, degree, scaled, IsPoly, IsWithin}
 use Rattle.vp_poly.specs.Value.{Point, value_at}
 use Rattle.vp_poly.proofs.PolyLaws.{IsPoly-scaled}
-use Rattle.vp_poly.proofs.BelowLaws.{AreBelow-scaled, AreBelow-nil}
+use Rattle.vp_poly.proofs.BelowLaws.{AreBelow-scaled, AreBelow-nil, HaveOnly-scaled, HaveOnly-nil}
 use Rattle.vp_poly.proofs.SizeLaws.{coef-scaled, IsWithin-scaled}
 use Rattle.vp_poly.proofs.ProductValues.{value_at-scaled, zero-product}
 
@@ -22,7 +22,7 @@ value_at-zero_times k ts a e = rw e (Equals-sym _ _ (zero-product (value_at ts a
 pub IsPoly-none : IsPoly []
 IsPoly-none = record { ordered = tt; small = omega arith; few = omega arith }
 
-pub ruleset scaling = (IsPoly-scaled, coef-scaled, value_at-scaled, IsWithin-scaled, coef-zero_times, value_at-zero_times, IsPoly-none, AreBelow-scaled, AreBelow-nil)
+pub ruleset scaling = (IsPoly-scaled, coef-scaled, value_at-scaled, IsWithin-scaled, coef-zero_times, value_at-zero_times, IsPoly-none, AreBelow-scaled, AreBelow-nil, HaveOnly-scaled, HaveOnly-nil)
 
 -- a word that isn't 0 stands for a number that isn't
 pub nonzero_word : (z : ℤ) → (of_z w128 z ≡ 0 → ⊥) → z ≢ pos 0

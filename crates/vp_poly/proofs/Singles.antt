@@ -10,7 +10,7 @@ use Rattle.vp_terms.proofs.RationalLaws.{Equals-sym, sum-zero, chain, sum-no_pro
 use Rattle.vp_poly.proofs.PolyLaws.{norm-cons}
 use Rattle.vp_poly.proofs.MergeLaws.{only_at-zero, int_eq_same}
 use Rattle.vp_poly.proofs.ValueLaws.{term_value}
-use Rattle.vp_poly.proofs.BelowLaws.{AreBelow-unless_zero}
+use Rattle.vp_poly.proofs.BelowLaws.{AreBelow-unless_zero, HaveOnly-unless_zero}
 
 other : (a b : ℤ) → int_eq a b ≡ false → a ≢ b
 other a b e = grind (arith, ints)
@@ -43,4 +43,4 @@ IsWithin-unless_zero t = case (int_eq t.coef (pos 0))
     case true = record { norm_le = omega arith; degree_le = omega arith; length_le = omega arith }
     case false = record { norm_le = omega (arith, norm-cons t []); degree_le = omega arith; length_le = omega arith }
 
-pub ruleset singles = (coef-unless_zero, value_at-unless_zero, IsPoly-unless_zero, AreBelow-unless_zero, IsWithin-unless_zero)
+pub ruleset singles = (coef-unless_zero, value_at-unless_zero, IsPoly-unless_zero, AreBelow-unless_zero, HaveOnly-unless_zero, IsWithin-unless_zero)

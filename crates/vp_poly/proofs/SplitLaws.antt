@@ -10,11 +10,11 @@ use Rattle.vp_poly.specs.Product.{added, sum_to, split_sum}
 abbrev pub int_sum : ℕ → (ℕ → ℤ) → ℤ
 int_sum n f = sum_to (λ x y. x +ℤ y) n f
 
-int_sum-cong : (n : ℕ) (f g : ℕ → ℤ) → ((i : ℕ) → f i ≡ g i) → int_sum n f ≡ int_sum n g
+pub int_sum-cong : (n : ℕ) (f g : ℕ → ℤ) → ((i : ℕ) → f i ≡ g i) → int_sum n f ≡ int_sum n g
 int_sum-cong zero f g h = h 0
 int_sum-cong (suc n) f g h = let a = int_sum-cong n f g h in let b = h (suc n) in omega (arith, ints)
 
-int_sum-plus : (n : ℕ) (f g : ℕ → ℤ) → int_sum n (λ i. f i +ℤ g i) ≡ int_sum n f +ℤ int_sum n g
+pub int_sum-plus : (n : ℕ) (f g : ℕ → ℤ) → int_sum n (λ i. f i +ℤ g i) ≡ int_sum n f +ℤ int_sum n g
 int_sum-plus zero f g = refl
 int_sum-plus (suc n) f g = let a = int_sum-plus n f g in omega (arith, ints)
 
@@ -105,7 +105,7 @@ int_sum-first : (n : ℕ) (g : ℕ → ℤ) → int_sum (suc n) g ≡ g 0 +ℤ i
 int_sum-first zero g = refl
 int_sum-first (suc n) g = let a = int_sum-first n g in omega (arith, ints)
 
-int_sum-within : (n : ℕ) (f g : ℕ → ℤ) → ((i : ℕ) → i ≤ n → f i ≡ g i) → int_sum n f ≡ int_sum n g
+pub int_sum-within : (n : ℕ) (f g : ℕ → ℤ) → ((i : ℕ) → i ≤ n → f i ≡ g i) → int_sum n f ≡ int_sum n g
 int_sum-within zero f g h = h 0 (omega arith)
 int_sum-within (suc n) f g h = let a = int_sum-within n f g (λ i le. h i (omega arith)) in let b = h (suc n) (omega arith) in omega (arith, ints)
 

@@ -25,7 +25,7 @@ only_at-other (x ∷ p) (y ∷ q) c n = case (x == y) refl (λ h. only_at-other 
     case true t more = let e : x ≡ y = eqb-true x y t in more (λ h. n cc)
     case false t more = refl
 
-apart : (m n : Mono) → mono_cmp m n ≡ Less → n.powers ≢ m.powers
+pub apart : (m n : Mono) → mono_cmp m n ≡ Less → n.powers ≢ m.powers
 apart m n h e =
     let self : mono_cmp m m ≡ Less = sym (ap (λ (p : Powers). mono_cmp m (record { powers = p })) e) ∙ h in
     let turned : Less ≡ Greater = sym self ∙ mono_cmp_total.antisymm m m ∙ ap ordering_reverse self in
@@ -39,7 +39,7 @@ coef-before t (u ∷ us) b =
     let rest = coef-before t us b.1 in
     omega (arith, ints)
 
-coef-first : (t : Term) (us : List Term) → IsBefore t us → coef (t ∷ us) t.mono.powers ≡ t.coef
+pub coef-first : (t : Term) (us : List Term) → IsBefore t us → coef (t ∷ us) t.mono.powers ≡ t.coef
 coef-first t us b =
     let one = only_at-self t.mono.powers t.coef in
     let rest = coef-before t us b in

@@ -1,14 +1,14 @@
 -- What it is to be the canonical polynomial of an expression, and what stands for its variables.
-use Rattle.std.specs.Prelude.{◌≡◌, true, List, [], ◌∷◌, ℕ, length, map, pos, replicate, slice_get, slice_set, IfSome, All}
+use Rattle.std.specs.Prelude.{◌≡◌, true, List, [], ◌∷◌, ℕ, length, map, pos, replicate, slice_get, slice_set, Bool, IfSome, IsTrue, All}
 use Rattle.vp_terms.specs.Rational.{whole}
-use Rattle.vp_terms.specs.Places.{place}
+use Rattle.vp_terms.specs.Places.{place, has_variable}
 use Rattle.vp_terms.specs.Meaning.{Assignment}
 use Rattle.vp_terms.specs.declared.expr.Places.{Places}
 use Rattle.vp_terms.specs.declared.expr.Var.{Var}
 use Rattle.vp_poly.specs.declared.mono.Term.{Term}
 use Rattle.vp_poly.specs.declared.scaled.Scaled.{Scaled}
 use Rattle.vp_poly.specs.Poly.{Powers, IsPoly, IsWithin}
-use Rattle.vp_poly.specs.Places.{AreBelow}
+use Rattle.vp_poly.specs.Places.{AreBelow, HaveOnly}
 use Rattle.vp_poly.specs.Value.{Point, value_at}
 use Rattle.vp_poly.specs.Coefficient.{Coefficients, fraction_at}
 use Rattle.vp_poly.specs.Times.{IsTimes, HasCoefficients}
@@ -38,13 +38,17 @@ pub record IsEnvironment (n : ℕ) (env : List Scaled) : Type 0 where
 abbrev pub weights_of : List Scaled → List Weights
 weights_of env = map (λ s. s.weight) env
 
--- f gives the coefficients of what stands for each variable
+-- f gives the coefficients of what stands for each variable of the model
 pub record StandsFor (p : Places) (env : List Scaled) (f : Var → Coefficients) : Type 0 where
-  pub each : (v : Var) → IfSome (slice_get env (place p v)) (λ s. HasCoefficients s.weight.den s.poly (f v))
+  pub each : (v : Var) → IsTrue (has_variable p v) → IfSome (slice_get env (place p v)) (λ s. HasCoefficients s.weight.den s.poly (f v))
 
--- at the point x, what stands for each variable has the value that a gives it
+-- at the point x, what stands for each variable of the model has the value that a gives it
 pub record StandsAt (p : Places) (env : List Scaled) (x : Point) (a : Assignment) : Type 0 where
-  pub each : (v : Var) → IfSome (slice_get env (place p v)) (λ s. IsTimes s.weight.den (value_at s.poly x) (a v))
+  pub each : (v : Var) → IsTrue (has_variable p v) → IfSome (slice_get env (place p v)) (λ s. IsTimes s.weight.den (value_at s.poly x) (a v))
+
+-- what stands for each variable that passes the first test has places alone that pass the second
+pub record StandsWithin (p : Places) (env : List Scaled) (used : Var → Bool) (allowed : ℕ → Bool) : Type 0 where
+  pub each : (v : Var) → IsTrue (used v) → IfSome (slice_get env (place p v)) (λ s. HaveOnly allowed s.poly)
 
 -- ---- variables that stand for themselves
 

@@ -3,6 +3,7 @@ pub mod Coefficient
 pub mod Lcm
 pub mod Merge
 pub mod Places
+pub mod Points
 pub mod Poly
 pub mod Product
 pub mod Renaming
@@ -13,3 +14,4 @@ pub mod Unbounded
 pub mod Unity
 pub mod Value
 pub mod Weights
+pub mod Whole

@@ -1,9 +1,9 @@
 -- The product of two lists of terms, and the sum over all ways to split a monomial in two.
-use Rattle.std.specs.Prelude.{◌≡◌, ℕ, zero, suc, ◌+◌, ◌-◌, ◌*◌, List, [], ◌∷◌, map, length, ℤ, ◌+ℤ◌, ◌*ℤ◌}
+use Rattle.std.specs.Prelude.{◌≡◌, ℕ, Bool, zero, suc, ◌+◌, ◌-◌, ◌*◌, List, [], ◌∷◌, map, length, ℤ, ◌+ℤ◌, ◌*ℤ◌}
 use Rattle.vp_terms.specs.Rational.{Equals, product}
 use Rattle.vp_poly.specs.declared.mono.Term.{Term}
 use Rattle.vp_poly.specs.Poly.{Powers, coef, norm, degree, IsPoly, IsWithin}
-use Rattle.vp_poly.specs.Places.{AreBelow}
+use Rattle.vp_poly.specs.Places.{AreBelow, HaveOnly}
 use Rattle.vp_poly.specs.Value.{Point, value_at}
 use Rattle.vp_poly.specs.Merge.{merged}
 
@@ -46,3 +46,4 @@ pub record IsProduct (xs ys zs : List Term) : Type 0 where
   pub poly : IsPoly zs
   pub sizes : IsWithin zs (norm xs * norm ys) (degree xs + degree ys) (length xs * length ys)
   pub places : (v : ℕ) → AreBelow v xs → AreBelow v ys → AreBelow v zs
+  pub only : (allowed : ℕ → Bool) → HaveOnly allowed xs → HaveOnly allowed ys → HaveOnly allowed zs

@@ -1,9 +1,10 @@
 //! The canonical polynomial of an expression.
 
-ghost use Rattle.std.specs.Prelude.{◌≡◌, ◌<◌, ◌≤◌, ◌^◌, IfOk, IsOk, IsTrue, Err, true, false, length, slice_get, Some};
+ghost use Rattle.std.specs.Prelude.{◌≡◌, ℕ, Bool, ◌<◌, ◌≤◌, ◌^◌, IfOk, IsOk, IsTrue, Err, true, false, length, slice_get, Some};
 ghost use Rattle.vp_terms.specs.declared.expr.Var.{Var};
 ghost use Rattle.vp_terms.specs.Meaning.{Assignment, value};
-ghost use Rattle.vp_terms.specs.Variables.{has_places_below};
+ghost use Rattle.vp_terms.specs.Places.{has_variable};
+ghost use Rattle.vp_terms.specs.Variables.{all_variables, has_places_below};
 ghost use Rattle.vp_words.specs.Record.{place_count};
 ghost use Rattle.vp_poly.specs.Weights.{fits, weight_between, weight_in};
 ghost use Rattle.vp_terms.specs.Rational.{difference};
@@ -11,8 +12,8 @@ ghost use Rattle.vp_poly.specs.Coefficient.{Coefficients, coefficients};
 ghost use Rattle.vp_poly.specs.Times.{HasCoefficients, IsTimes};
 ghost use Rattle.vp_poly.specs.Value.{Point, value_at};
 ghost use Rattle.vp_poly.specs.Poly.{IsPoly, degree, norm};
-ghost use Rattle.vp_poly.specs.Places.{AreBelow, places_for};
-ghost use Rattle.vp_poly.specs.Canonical.{IsCanonical, IsEnvironment, IsWeighed, StandsAt, StandsFor, weights_of};
+ghost use Rattle.vp_poly.specs.Places.{AreBelow, HaveOnly, places_for};
+ghost use Rattle.vp_poly.specs.Canonical.{IsCanonical, IsEnvironment, IsWeighed, StandsAt, StandsFor, StandsWithin, weights_of};
 
 use crate::places::place_in;
 use crate::scaled::{difference, number, power, product, total};
@@ -60,12 +61,19 @@ pub fn of_expr(alloc: Global, e: &Expr, counts: Counts, env: &[Scaled]) -> Resul
     ensures low { IfOk result (λ s. degree s.poly ≤ 12) }
     ensures few { IfOk result (λ s. length s.poly ≤ 4096) }
     ensures places { IfOk result (λ s. AreBelow (place_count counts) s.poly) }
+    ensures only { (used : Var → Bool) (allowed : ℕ → Bool) → IsTrue (all_variables used e.now) →
+        StandsWithin (places_for counts) env.now used allowed →
+        IfOk result (λ s. HaveOnly allowed s.poly) }
     ensures positive { IfOk result (λ s. 0 < s.weight.den) }
 
     // It has the coefficients, and at each point the value, of the expression times the denominator.
-    ensures canonical { (f : Var → Coefficients) → StandsFor (places_for counts) env.now f →
+    ensures canonical { (f : Var → Coefficients) →
+        IsTrue (all_variables (has_variable (places_for counts)) e.now) →
+        StandsFor (places_for counts) env.now f →
         IfOk result (λ s. IsCanonical s.weight.den s.poly (coefficients f e.now)) }
-    ensures values { (x : Point) (a : Assignment) → StandsAt (places_for counts) env.now x a →
+    ensures values { (x : Point) (a : Assignment) →
+        IsTrue (all_variables (has_variable (places_for counts)) e.now) →
+        StandsAt (places_for counts) env.now x a →
         IfOk result (λ s. IsTimes s.weight.den (value_at s.poly x) (value e.now a)) }
 {
     let weights = weights_of(alloc, env)?;
@@ -101,12 +109,21 @@ pub fn of_difference(
     ensures low { IfOk result (λ s. degree s.poly ≤ 12) }
     ensures few { IfOk result (λ s. length s.poly ≤ 4096) }
     ensures places { IfOk result (λ s. AreBelow (place_count counts) s.poly) }
+    ensures only { (used : Var → Bool) (allowed : ℕ → Bool) → IsTrue (all_variables used a.now) →
+        IsTrue (all_variables used b.now) → StandsWithin (places_for counts) env.now used allowed →
+        IfOk result (λ s. HaveOnly allowed s.poly) }
     ensures positive { IfOk result (λ s. 0 < s.weight.den) }
 
-    ensures canonical { (f : Var → Coefficients) → StandsFor (places_for counts) env.now f →
+    ensures canonical { (f : Var → Coefficients) →
+        IsTrue (all_variables (has_variable (places_for counts)) a.now) →
+        IsTrue (all_variables (has_variable (places_for counts)) b.now) →
+        StandsFor (places_for counts) env.now f →
         IfOk result (λ s. IsCanonical s.weight.den s.poly (λ m. difference
         (coefficients f a.now m) (coefficients f b.now m))) }
-    ensures values { (x : Point) (v : Assignment) → StandsAt (places_for counts) env.now x v →
+    ensures values { (x : Point) (v : Assignment) →
+        IsTrue (all_variables (has_variable (places_for counts)) a.now) →
+        IsTrue (all_variables (has_variable (places_for counts)) b.now) →
+        StandsAt (places_for counts) env.now x v →
         IfOk result (λ s. IsTimes s.weight.den (value_at s.poly x) (difference (value a.now v)
         (value b.now v))) }
 {
@@ -143,9 +160,16 @@ fn build(alloc: Global, e: &Expr, counts: Counts, env: &[Scaled]) -> Result<Scal
     ensures weighed { IfOk result (λ s. IsWeighed s.poly s.weight) }
     ensures canonical { IfOk result (λ s. IsPoly s.poly) }
     ensures places { IfOk result (λ s. AreBelow (place_count counts) s.poly) }
-    ensures coefficients { (f : Var → Coefficients) → StandsFor (places_for counts) env.now f →
+    ensures only { (used : Var → Bool) (allowed : ℕ → Bool) → IsTrue (all_variables used e.now) →
+        StandsWithin (places_for counts) env.now used allowed →
+        IfOk result (λ s. HaveOnly allowed s.poly) }
+    ensures coefficients { (f : Var → Coefficients) →
+        IsTrue (all_variables (has_variable (places_for counts)) e.now) →
+        StandsFor (places_for counts) env.now f →
         IfOk result (λ s. HasCoefficients s.weight.den s.poly (coefficients f e.now)) }
-    ensures values { (x : Point) (a : Assignment) → StandsAt (places_for counts) env.now x a →
+    ensures values { (x : Point) (a : Assignment) →
+        IsTrue (all_variables (has_variable (places_for counts)) e.now) →
+        StandsAt (places_for counts) env.now x a →
         IfOk result (λ s. IsTimes s.weight.den (value_at s.poly x) (value e.now a)) }
 {
     match e {

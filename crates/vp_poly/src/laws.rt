@@ -1,25 +1,32 @@
 //! Laws of polynomials, weights and coefficients: the contracts of these functions say them, and
 //! their bodies do nothing.
-ghost use Rattle.std.specs.Prelude.{◌≡◌, ◌*◌, ◌+ℤ◌, ◌*ℤ◌, ◌<◌, ℕ, List, pos, swap, true};
+ghost use Rattle.std.specs.Prelude.{◌≡◌, ◌*◌, ◌/◌, ◌+ℤ◌, ◌*ℤ◌, ◌<◌, ℕ, ℤ, Bool, IsTrue, List, length, nat_lt, pos, swap, true};
 ghost use Rattle.std.specs.List.{range_with_len};
 ghost use Rattle.std.specs.Int.{IsGcd};
 ghost use Rattle.vp_terms.specs.Rational.{Rational, Equals, product, sum, whole};
-ghost use Rattle.vp_terms.specs.Meaning.{Assignment, value, compares};
+ghost use Rattle.vp_terms.specs.Meaning.{Assignment, value, compares, holds};
+ghost use Rattle.vp_terms.specs.Places.{place_count, has_variable};
+ghost use Rattle.vp_terms.specs.Tree.{expr_tree};
+ghost use Rattle.vp_terms.specs.Variables.{all_variables, all_variables_of};
+ghost use Rattle.vp_terms.specs.declared.expr.Places.{Places};
+ghost use Rattle.vp_terms.specs.declared.formula.Formula.{Formula};
 ghost use Rattle.vp_terms.specs.declared.formula.Cmp.{Cmp};
 ghost use Rattle.vp_terms.specs.declared.expr.Var.{Var};
 ghost use Rattle.vp_terms.specs.declared.expr.Expr.{Expr};
 ghost use Rattle.vp_poly.specs.declared.mono.Term.{Term};
 ghost use Rattle.vp_poly.specs.Poly.{Powers, IsPoly, coef};
-ghost use Rattle.vp_poly.specs.Places.{AreBelow, IsRenaming};
+ghost use Rattle.vp_poly.specs.Places.{AreBelow, HaveOnly, IsRenaming, before_renaming, point_before};
+ghost use Rattle.vp_poly.specs.Points.{IsAt, Sends};
+ghost use Rattle.vp_poly.specs.Whole.{IsWhole, whole_value};
 ghost use Rattle.vp_poly.specs.Value.{Point, value_at};
-ghost use Rattle.vp_poly.specs.Lcm.{gcd, lcm};
+ghost use Rattle.vp_poly.specs.Lcm.{Shares, gcd, lcm};
 ghost use Rattle.vp_poly.specs.Coefficient.{Coefficients, coefficients, times};
 ghost use Rattle.vp_poly.specs.Product.{split_sum};
 ghost use Rattle.vp_poly.specs.Times.{HasCoefficients, IsTimes};
-ghost use Rattle.vp_poly.specs.Weights.{Weights, fits, weight};
+ghost use Rattle.vp_poly.specs.Weights.{Weights, fits, weight, weight_in};
 ghost use Rattle.vp_poly.specs.Unbounded.{exact_weight, all_fit};
-ghost use Rattle.vp_poly.specs.Canonical.{IsCanonical};
-ghost use Rattle.vp_poly.specs.Replaced.{replaced};
+ghost use Rattle.vp_poly.specs.Canonical.{IsCanonical, values_at};
+ghost use Rattle.vp_poly.specs.Replaced.{formula_replaced, replaced};
 
 /// A polynomial is known by its coefficients, so an expression has one canonical polynomial.
 pub fn polynomials_are_unique()
@@ -35,6 +42,77 @@ pub fn values_respect_equality()
         Equals (value_at ts x) (value_at ts y) }
     ensures below { (v : ℕ) (ts : List Term) (x y : Point) → AreBelow v ts →
         ((k : ℕ) → k < v → Equals (x k) (y k)) → Equals (value_at ts x) (value_at ts y) }
+    ensures only { (allowed : ℕ → Bool) (ts : List Term) (x y : Point) → HaveOnly allowed ts →
+        ((k : ℕ) → IsTrue (allowed k) → Equals (x k) (y k)) → Equals (value_at ts x) (value_at ts y) }
+{}
+
+/// What has places that pass a test has places that pass a weaker one, and to have places below a
+/// number is such a test.
+pub fn places_pass_tests()
+    ensures weaker { (allowed kept : ℕ → Bool) (ts : List Term) →
+        ((k : ℕ) → IsTrue (allowed k) → IsTrue (kept k)) → HaveOnly allowed ts → HaveOnly kept ts }
+    ensures below { (v : ℕ) (ts : List Term) → AreBelow v ts → HaveOnly (λ k. nat_lt k v) ts }
+    ensures passed { (v : ℕ) (ts : List Term) → HaveOnly (λ k. nat_lt k v) ts → AreBelow v ts }
+{}
+
+/// Each assignment is that of some point, and two at one point agree on the variables of the model.
+/// Where places are renamed, the variables are.
+pub fn points_have_assignments()
+    ensures some { (p : Places) (a : Assignment) → (x : Point) × IsAt p x a }
+    ensures own { (p : Places) (x : Point) → IsAt p x (values_at p x) }
+    ensures one { (p : Places) (x : Point) (a b : Assignment) → IsAt p x a → IsAt p x b →
+        (v : Var) → IsTrue (has_variable p v) → Equals (a v) (b v) }
+    ensures places { (p : Places) (x y : Point) (a : Assignment) →
+        ((k : ℕ) → k < place_count p → Equals (x k) (y k)) → IsAt p x a → IsAt p y a }
+    ensures values { (p : Places) (x : Point) (a b : Assignment) →
+        ((v : Var) → IsTrue (has_variable p v) → Equals (a v) (b v)) → IsAt p x a → IsAt p x b }
+    ensures renamed { (p : Places) (to : List ℕ) (g : Var → Var) (x : Point) (a : Assignment) →
+        Sends p to g → IsAt p x a → IsAt p (point_before to x) (λ v. a (g v)) }
+{}
+
+/// A polynomial whose coefficients are the sums, multiples or renamed coefficients of others has the
+/// sums, multiples or renamed values.
+pub fn coefficients_tell_values()
+    ensures sums { (xs ys zs : List Term) (x : Point) → IsPoly xs → IsPoly ys → IsPoly zs →
+        ((m : Powers) → coef zs m ≡ coef xs m +ℤ coef ys m) →
+        Equals (value_at zs x) (sum (value_at xs x) (value_at ys x)) }
+    ensures multiples { (k : ℤ) (xs zs : List Term) (x : Point) → IsPoly xs → IsPoly zs →
+        ((m : Powers) → coef zs m ≡ k *ℤ coef xs m) →
+        Equals (value_at zs x) (product (whole k) (value_at xs x)) }
+    ensures renamed { (to : List ℕ) (xs zs : List Term) (x : Point) → IsRenaming to → IsPoly xs →
+        IsPoly zs → ((m : Powers) → length m ≡ 32 → coef zs m ≡ coef xs (before_renaming to m)) →
+        Equals (value_at zs x) (value_at xs (point_before to x)) }
+{}
+
+/// The value of a polynomial at whole numbers is whole.
+pub fn values_at_whole_numbers_are_whole()
+    ensures { (z : ℕ → ℤ) (ts : List Term) → IsWhole (value_at ts (λ k. whole (z k))) (whole_value ts z) }
+{}
+
+/// Expressions that differ in their boxes alone have one weight, the same coefficients and one
+/// canonical polynomial.
+pub fn equal_trees_have_one_polynomial()
+    ensures weights { (env : Var → Weights) (e f : Expr) → expr_tree e ≡ expr_tree f →
+        weight env e ≡ weight env f }
+    ensures coefficients { (env : Var → Coefficients) (e f : Expr) → expr_tree e ≡ expr_tree f →
+        coefficients env e ≡ coefficients env f }
+    ensures canonical { (p : Places) (ws : List Weights) (c : Var → Coefficients) (e f : Expr)
+        (xs ys : List Term) → expr_tree e ≡ expr_tree f →
+        IsCanonical (weight_in p ws e).den xs (coefficients c e) →
+        IsCanonical (weight_in p ws f).den ys (coefficients c f) → xs ≡ ys }
+{}
+
+/// Sums over the ways to split a monomial commute and associate.
+pub fn sums_over_splits()
+    ensures commutative { (m : Powers) (f : Powers → Powers → ℤ) →
+        split_sum m f ≡ split_sum m (λ a b. f b a) }
+    ensures associative { (m : Powers) (f : Powers → Powers → Powers → ℤ) →
+        split_sum m (λ a c. split_sum a (λ b d. f b d c)) ≡
+        split_sum m (λ b x. split_sum x (λ d c. f b d c)) }
+    ensures sums { (m : Powers) (f g : Powers → Powers → ℤ) →
+        split_sum m (λ a b. f a b +ℤ g a b) ≡ split_sum m f +ℤ split_sum m g }
+    ensures multiples { (m : Powers) (f : Powers → Powers → ℤ) (z : ℤ) →
+        split_sum m f *ℤ z ≡ split_sum m (λ a b. f a b *ℤ z) }
 {}
 
 /// A positive multiple compares with 0 as the number itself.
@@ -55,6 +133,7 @@ pub fn saturation_keeps_over()
 pub fn common_multiples()
     ensures divisor { (a b : ℕ) → IsGcd a b (gcd a b) }
     ensures multiple { (a b : ℕ) → 0 < b → lcm a b * gcd a b ≡ a * b }
+    ensures shares { (a b : ℕ) → 0 < a → 0 < b → Shares a b (lcm a b / a) (lcm a b / b) }
 {}
 
 /// Where variables are replaced by expressions, coefficients, values and weights are those over
@@ -66,6 +145,18 @@ pub fn replacing_composes()
         value (replaced s e) a ≡ value e (λ v. value (s v) a) }
     ensures weights { (w : Var → Weights) (s : Var → Expr) (e : Expr) →
         weight w (replaced s e) ≡ weight (λ v. weight w (s v)) e }
+    ensures truth { (a : Assignment) (s : Var → Expr) (f : Formula) →
+        holds (formula_replaced s f) a ≡ holds f (λ v. value (s v) a) }
+    ensures twice { (r s : Var → Expr) (e : Expr) →
+        replaced r (replaced s e) ≡ replaced (λ v. replaced r (s v)) e }
+    ensures formulas_twice { (r s : Var → Expr) (f : Formula) →
+        formula_replaced r (formula_replaced s f) ≡ formula_replaced (λ v. replaced r (s v)) f }
+    ensures variables { (t u : Var → Bool) (s : Var → Expr) (e : Expr) →
+        ((v : Var) → IsTrue (t v) → IsTrue (all_variables u (s v))) → IsTrue (all_variables t e) →
+        IsTrue (all_variables u (replaced s e)) }
+    ensures formula_variables { (t u : Var → Bool) (s : Var → Expr) (f : Formula) →
+        ((v : Var) → IsTrue (t v) → IsTrue (all_variables u (s v))) → IsTrue (all_variables_of t f) →
+        IsTrue (all_variables_of u (formula_replaced s f)) }
 {}
 
 /// A renaming that leaves each place is one, and stays one where two of its places change.

@@ -18,4 +18,4 @@ pub use environment::plain;
 pub use mono::{Mono, Term};
 pub use poly::Poly;
 pub use scaled::Scaled;
-pub use weight::{Weight, weigh};
+pub use weight::{Weight, lcm, weigh};

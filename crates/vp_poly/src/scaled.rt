@@ -1,6 +1,6 @@
 //! Polynomials with their weights: numbers, sums, differences, products and powers.
 
-ghost use Rattle.std.specs.Prelude.{◌≡◌, ◌<◌, ◌*◌, ◌^◌, ◌*ℤ◌, ℕ, neg_ℤ, length, replicate, pos, IfOk, true};
+ghost use Rattle.std.specs.Prelude.{◌≡◌, Bool, ◌<◌, ◌*◌, ◌^◌, ◌*ℤ◌, ℕ, neg_ℤ, length, replicate, pos, IfOk, true};
 ghost use Rattle.vp_poly.specs.Weights.{fits, weight_number, weight_product, weight_power, weight_sum};
 ghost use Rattle.vp_poly.specs.Coefficient.{Coefficients, constant, times, to_power};
 ghost use Rattle.vp_poly.specs.Poly.{Powers, IsPoly, IsWithin, coef, norm, degree};
@@ -8,7 +8,7 @@ ghost use Rattle.vp_terms.specs.Rational.{Rational, Equals, whole, sum, differen
 ghost use Rattle.vp_terms.specs.Meaning.{rational};
 ghost use Rattle.vp_poly.specs.Value.{Point, value_at};
 ghost use Rattle.vp_poly.specs.Times.{HasCoefficients, IsTimes};
-ghost use Rattle.vp_poly.specs.Places.{AreBelow};
+ghost use Rattle.vp_poly.specs.Places.{AreBelow, HaveOnly};
 ghost use Rattle.vp_poly.specs.Canonical.{IsWeighed};
 ghost use Rattle.vp_poly.specs.Unity.{unity};
 
@@ -45,6 +45,7 @@ pub(crate) fn number(alloc: Global, value: Ratio) -> Result<Scaled, AllocError>
     ensures weighed { IfOk result (λ s. IsWeighed s.poly s.weight) }
     ensures canonical { IfOk result (λ s. IsPoly s.poly) }
     ensures places { (v : ℕ) → IfOk result (λ s. AreBelow v s.poly) }
+    ensures only { (allowed : ℕ → Bool) → IfOk result (λ s. HaveOnly allowed s.poly) }
     ensures coefficients { IfOk result (λ s. HasCoefficients s.weight.den s.poly (constant
         (rational value))) }
     ensures values { IfOk result (λ s. (x : Point) →
@@ -75,6 +76,8 @@ pub(crate) fn product(alloc: Global, a: &Scaled, b: &Scaled) -> Result<Scaled, A
     ensures canonical { IfOk result (λ s. IsPoly s.poly) }
     ensures places { (v : ℕ) → AreBelow v a.now.poly → AreBelow v b.now.poly →
         IfOk result (λ s. AreBelow v s.poly) }
+    ensures only { (allowed : ℕ → Bool) → HaveOnly allowed a.now.poly →
+        HaveOnly allowed b.now.poly → IfOk result (λ s. HaveOnly allowed s.poly) }
     ensures coefficients { IfOk result (λ s. (f g : Coefficients) →
         HasCoefficients a.now.weight.den a.now.poly f →
         HasCoefficients b.now.weight.den b.now.poly g →
@@ -100,6 +103,8 @@ pub(crate) fn total(alloc: Global, a: &Scaled, b: &Scaled) -> Result<Scaled, All
     ensures canonical { IfOk result (λ s. IsPoly s.poly) }
     ensures places { (v : ℕ) → AreBelow v a.now.poly → AreBelow v b.now.poly →
         IfOk result (λ s. AreBelow v s.poly) }
+    ensures only { (allowed : ℕ → Bool) → HaveOnly allowed a.now.poly →
+        HaveOnly allowed b.now.poly → IfOk result (λ s. HaveOnly allowed s.poly) }
     ensures coefficients { IfOk result (λ s. (f g : Coefficients) →
         HasCoefficients a.now.weight.den a.now.poly f →
         HasCoefficients b.now.weight.den b.now.poly g →
@@ -128,6 +133,8 @@ pub(crate) fn difference(alloc: Global, a: &Scaled, b: &Scaled) -> Result<Scaled
     ensures canonical { IfOk result (λ s. IsPoly s.poly) }
     ensures places { (v : ℕ) → AreBelow v a.now.poly → AreBelow v b.now.poly →
         IfOk result (λ s. AreBelow v s.poly) }
+    ensures only { (allowed : ℕ → Bool) → HaveOnly allowed a.now.poly →
+        HaveOnly allowed b.now.poly → IfOk result (λ s. HaveOnly allowed s.poly) }
     ensures coefficients { IfOk result (λ s. (f g : Coefficients) →
         HasCoefficients a.now.weight.den a.now.poly f →
         HasCoefficients b.now.weight.den b.now.poly g →
@@ -155,6 +162,8 @@ fn scale_by(alloc: Global, poly: &Poly, by: u128) -> Result<Poly, AllocError>
         (length poly.now)) }
     ensures canonical { IfOk result IsPoly }
     ensures places { (v : ℕ) → AreBelow v poly.now → IfOk result (AreBelow v) }
+    ensures only { (allowed : ℕ → Bool) → HaveOnly allowed poly.now →
+        IfOk result (HaveOnly allowed) }
 {
     poly.scale(alloc, by as i128)
 }
@@ -170,6 +179,8 @@ fn scale_down(alloc: Global, poly: &Poly, by: u128) -> Result<Poly, AllocError>
         (length poly.now)) }
     ensures canonical { IfOk result IsPoly }
     ensures places { (v : ℕ) → AreBelow v poly.now → IfOk result (AreBelow v) }
+    ensures only { (allowed : ℕ → Bool) → HaveOnly allowed poly.now →
+        IfOk result (HaveOnly allowed) }
 {
     poly.scale(alloc, -(by as i128))
 }
@@ -183,6 +194,8 @@ pub(crate) fn power(alloc: Global, base: &Scaled, exponent: u32) -> Result<Scale
     ensures weighed { IfOk result (λ s. IsWeighed s.poly s.weight) }
     ensures canonical { IfOk result (λ s. IsPoly s.poly) }
     ensures places { (v : ℕ) → AreBelow v base.now.poly → IfOk result (λ s. AreBelow v s.poly) }
+    ensures only { (allowed : ℕ → Bool) → HaveOnly allowed base.now.poly →
+        IfOk result (λ s. HaveOnly allowed s.poly) }
     ensures coefficients { IfOk result (λ s. (f : Coefficients) →
         HasCoefficients base.now.weight.den base.now.poly f →
         HasCoefficients s.weight.den s.poly (to_power f exponent)) }

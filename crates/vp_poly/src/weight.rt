@@ -1,11 +1,11 @@
 //! Weights: bounds on a polynomial that are known before it is made.
 
-ghost use Rattle.std.specs.Prelude.{◌≡◌, ◌*◌, ◌^◌, ◌<◌, ◌≤◌, true, ◌/◌, min, IsTrue, length};
+ghost use Rattle.std.specs.Prelude.{◌≡◌, ◌*◌, ◌^◌, ◌<◌, ◌≤◌, true, ◌/◌, min, IfSome, IsTrue, MatchOption, length};
 ghost use Rattle.vp_terms.specs.Variables.{has_places_below};
 ghost use Rattle.vp_words.specs.Record.{place_count};
 ghost use Rattle.vp_poly.specs.Places.{places_for};
 ghost use Rattle.vp_poly.specs.Rooms.{IsRoomy};
-ghost use Rattle.vp_poly.specs.Lcm.{gcd, Shares};
+ghost use Rattle.vp_poly.specs.Lcm.{gcd, lcm, Shares};
 ghost use Rattle.vp_poly.specs.Weights.{fits, weight_sum, weight_product, weight_power, weight_number, norm_if, most, weight_in};
 
 use crate::places::place_in;
@@ -62,9 +62,10 @@ pub fn weigh(e: &Expr, counts: Counts, env: &[Weight]) -> Weight
 }
 
 impl Weight {
-    fn new(norm: u128, den: u128, degree: u32, terms: u32) -> Weight
-        requires norm { norm ≤ most }
-        requires den { den ≤ most }
+    /// The weight of these parts, of which norm and denominator are at most 2^127 - 1.
+    pub fn new(norm: u128, den: u128, degree: u32, terms: u32) -> Weight
+        requires norm { norm < 2 ^ 127 }
+        requires den { den < 2 ^ 127 }
         requires positive { 0 < den }
         ensures { result ≡ record { norm = norm; den = den; degree = degree; terms = terms } }
     {
@@ -193,6 +194,18 @@ fn shares(a: u128, b: u128) -> (u128, u128)
 {
     let divisor = gcd(a, b);
     (b / divisor, a / divisor)
+}
+
+/// The least common multiple of two numbers that aren't 0, unless it is 2^128 or more.
+#[tactic(auto, using(crate::proofs::LcmLaws::multiples))]
+pub fn lcm(a: u128, b: u128) -> Option<u128>
+    requires a { 0 < a }
+    requires b { 0 < b }
+    ensures exact { MatchOption result (2 ^ 128 ≤ lcm a b) (λ m. m ≡ lcm a b) }
+    ensures shares { IfSome result (λ m. Shares a b (m / a) (m / b)) }
+{
+    let divisor = gcd(a, b);
+    (a / divisor).checked_mul(b)
 }
 
 // The greatest common divisor.

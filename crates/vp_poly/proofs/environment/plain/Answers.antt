@@ -1,5 +1,5 @@
 use Rattle.std.proofs.Common.{arith}
-use Rattle.vp_poly.proofs.PlainLaws.{made-more, IsEnvironment-made, StandsFor-made, StandsAt-made}
+use Rattle.vp_poly.proofs.PlainLaws.{made-more, IsEnvironment-made, StandsFor-made, StandsAt-made, StandsWithin-made}
 use Rattle.vp_poly.proofs.environment.plain.Goals as goal
 
 pub loop-place-preserved : goal.loop-place-preserved
@@ -12,4 +12,7 @@ pub returns-clause-coefficients : goal.returns-clause-coefficients
 returns-clause-coefficients c = StandsFor-made _ _ _ c.loop-place.invariant
 
 pub returns-clause-values : goal.returns-clause-values
-returns-clause-values c = λ x. StandsAt-made _ _ _ x c.loop-place.invariant (omega arith)
+returns-clause-values c = λ x a h. StandsAt-made _ _ _ x a c.loop-place.invariant (omega arith) h
+
+pub returns-clause-only : goal.returns-clause-only
+returns-clause-only c = λ used allowed h. StandsWithin-made _ _ _ used allowed c.loop-place.invariant h

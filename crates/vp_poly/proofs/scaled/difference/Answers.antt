@@ -21,3 +21,6 @@ returns-clause-values c =
 
 pub returns-clause-places : goal.returns-clause-places
 returns-clause-places c = λ v h k. c.in_ok-poly.ensures.places v (c.in_ok-left.ensures.places v h) (c.in_ok-right.ensures.places v k)
+
+pub returns-clause-only : goal.returns-clause-only
+returns-clause-only c = λ f h k. c.in_ok-poly.ensures.only f (c.in_ok-left.ensures.only f h) (c.in_ok-right.ensures.only f k)

@@ -8,7 +8,7 @@ loop-i-init c = HasPower-none _ _ _ c.in_ok-poly.ensures.terms c.in_ok-poly.ensu
 pub loop-i-preserved : goal.loop-i-preserved
 loop-i-preserved c =
     let made = c.in_ok-poly-2.ensures in
-    HasPower-more c.args.base.now.poly c.loop-i.poly c.in_ok-poly-2.poly _ _ c.requires.base c.loop-i.invariant made.canonical made.coefficients made.values made.sizes made.places
+    HasPower-more c.args.base.now.poly c.loop-i.poly c.in_ok-poly-2.poly _ _ c.requires.base c.loop-i.invariant made.canonical made.coefficients made.values made.sizes made.places made.only
 
 pub returns-clause-coefficients : goal.returns-clause-coefficients
 returns-clause-coefficients c =
