@@ -1,8 +1,14 @@
 pub mod Choosing
 pub mod Comparing
 pub mod Counting
+pub mod TwoMembers
 pub mod Joining
 pub mod Lawful
+pub mod AllMembers
+pub mod Alike
+pub mod Bounding
+pub mod RenamedTruth
+pub mod Replacing
 pub mod Listing
 pub mod Moved
 pub mod Negating

@@ -1,5 +1,5 @@
 -- The cases of a conjunction of normal forms.
-use Rattle.std.specs.Prelude.{◌≡◌, ⊤, ℕ, ◌+◌, ◌-◌, ◌*◌, ◌^◌, ◌<◌, min, Vec, Bool, false, List, [], ◌∷◌, ◌++◌, length, map, slice_get}
+use Rattle.std.specs.Prelude.{◌≡◌, ⊤, ℕ, ◌+◌, ◌-◌, ◌*◌, ◌^◌, ◌<◌, min, Vec, Bool, false, List, [], ◌∷◌, ◌++◌, length, map, slice_get, All}
 use Rattle.std.specs.declared.alloc.Global.{Global}
 use Rattle.std.specs.List.{list_all, flat_map}
 use Rattle.std.specs.Option.{option_map_or}
@@ -61,6 +61,10 @@ part_count (t ∷ ts) = case_count t * part_count ts
 -- whether all atoms of a case hold
 abbrev pub case_holds : List Atom → Point → Case → Bool
 case_holds atoms x c = list_all (λ k. option_map_or (λ a. atom_holds a x) (slice_get atoms k) false) c
+
+-- each place of each case is below n
+abbrev pub AreWithin : ℕ → List Case → Type 0
+AreWithin n cs = All (λ c. All (λ k. k < n) c) cs
 
 -- the lists in a list of vectors
 abbrev pub lists : List (Vec ℕ Global) → List Case

@@ -24,3 +24,11 @@ terms_of p ws (Not' l f) = terms_of p ws f
 -- no comparison is over, and their terms are at most 65,536
 abbrev pub is_narrow : Places → List Weights → Formula → Bool
 is_narrow p ws f = comparisons_fit p ws f && nat_le (terms_of p ws f) 65536
+
+-- how many comparisons there are
+abbrev pub comparisons : Formula → ℕ
+comparisons True = 0
+comparisons (Compare c a b) = 1
+comparisons (And' l f r g) = comparisons f + comparisons g
+comparisons (Or' l f r g) = comparisons f + comparisons g
+comparisons (Not' l f) = comparisons f

@@ -1,7 +1,7 @@
--- Normal forms whose polynomials are small.
-use Rattle.std.specs.Prelude.{⊤, ℕ, ◌<◌, ◌≤◌, ◌^◌, List, [], ◌∷◌}
+-- Normal forms whose polynomials are small, and those with some places alone.
+use Rattle.std.specs.Prelude.{⊤, ℕ, Bool, ◌<◌, ◌≤◌, ◌^◌, List, [], ◌∷◌}
 use Rattle.vp_poly.specs.Poly.{IsPoly, degree, norm}
-use Rattle.vp_poly.specs.Places.{AreBelow}
+use Rattle.vp_poly.specs.Places.{AreBelow, HaveOnly}
 use Rattle.vp_logic.specs.declared.norm.Atom.{Atom}
 use Rattle.vp_logic.specs.Tree.{Tree, Trees, One, AllOf, AnyOf, None, Then}
 
@@ -27,3 +27,19 @@ abbrev mutual
 abbrev pub EachIsSized : ℕ → List Tree → Type 0
 EachIsSized v [] = ⊤
 EachIsSized v (t ∷ ts) = IsSized v t × EachIsSized v ts
+
+-- the polynomial of each atom has places alone that pass the test
+abbrev mutual
+  pub TreeHasOnly : (ℕ → Bool) → Tree → Type 0
+  TreeHasOnly allowed (One a) = HaveOnly allowed a.poly
+  TreeHasOnly allowed (AllOf ns) = TreesHaveOnly allowed ns
+  TreeHasOnly allowed (AnyOf ns) = TreesHaveOnly allowed ns
+
+  pub TreesHaveOnly : (ℕ → Bool) → Trees → Type 0
+  TreesHaveOnly allowed None = ⊤
+  TreesHaveOnly allowed (Then n ns) = TreeHasOnly allowed n × TreesHaveOnly allowed ns
+
+-- and so in each form of a list
+abbrev pub EachHasOnly : (ℕ → Bool) → List Tree → Type 0
+EachHasOnly allowed [] = ⊤
+EachHasOnly allowed (t ∷ ts) = TreeHasOnly allowed t × EachHasOnly allowed ts

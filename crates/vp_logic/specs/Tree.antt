@@ -31,6 +31,11 @@ abbrev mutual
   trees End = None
   trees (More' n p ns) = Then (tree n) (trees ns)
 
+-- these forms as members
+abbrev pub members : List Tree → Trees
+members [] = None
+members (t ∷ ts) = Then t (members ts)
+
 -- the atom p with this relation to 0
 abbrev pub atom : Rel → List Term → Tree
 atom rel p = One (record { poly = p; rel = rel })

@@ -1,11 +1,12 @@
 //! The normal form of a formula.
-ghost use Rattle.std.specs.Prelude.{◌≡◌, ◌≢◌, ◌^◌, ◌-◌, ◌<◌, ◌≤◌, min, IsOk, IfOk, IsTrue, Err, true, false, length};
+ghost use Rattle.std.specs.Prelude.{◌≡◌, ◌≢◌, ℕ, Bool, ◌^◌, ◌-◌, ◌<◌, ◌≤◌, min, IsOk, IfOk, IsTrue, Err, true, false, length};
 ghost use Rattle.vp_terms.specs.Rational.{difference as minus};
 ghost use Rattle.vp_terms.specs.Meaning.{Assignment, compares, holds, value};
-ghost use Rattle.vp_terms.specs.Variables.{has_places_below, formula_has_places_below};
+ghost use Rattle.vp_terms.specs.Places.{has_variable};
+ghost use Rattle.vp_terms.specs.Variables.{all_variables, all_variables_of, has_places_below, formula_has_places_below};
 ghost use Rattle.vp_terms.specs.declared.expr.Var.{Var};
 ghost use Rattle.vp_words.specs.Record.{place_count};
-ghost use Rattle.vp_poly.specs.Canonical.{IsEnvironment, StandsAt, StandsFor, weights_of};
+ghost use Rattle.vp_poly.specs.Canonical.{IsEnvironment, StandsAt, StandsFor, StandsWithin, weights_of};
 ghost use Rattle.vp_poly.specs.Coefficient.{Coefficients};
 ghost use Rattle.vp_poly.specs.Places.{AreBelow, places_for};
 ghost use Rattle.vp_poly.specs.Poly.{degree, norm};
@@ -13,7 +14,7 @@ ghost use Rattle.vp_poly.specs.Value.{Point};
 ghost use Rattle.vp_poly.specs.Weights.{fits, weight_between};
 ghost use Rattle.vp_logic.specs.Narrow.{comparisons_fit, is_narrow, terms_of};
 ghost use Rattle.vp_logic.specs.Normal.{IsAtom, IsComparison, IsNormal};
-ghost use Rattle.vp_logic.specs.Sized.{IsSized};
+ghost use Rattle.vp_logic.specs.Sized.{IsSized, TreeHasOnly};
 ghost use Rattle.vp_logic.specs.Tree.{tree};
 ghost use Rattle.vp_logic.specs.Truth.{rel_holds, tree_holds};
 
@@ -38,13 +39,22 @@ pub fn normal(alloc: Global, f: &Formula, counts: Counts, env: &[Scaled]) -> Res
     ensures within { IsOk result → is_narrow (places_for counts) (weights_of env.now) f.now ≡ true }
     ensures wide { result ≡ Err PolyErr.Wide → is_narrow (places_for counts) (weights_of env.now) f.now ≡ false }
 
-    ensures form { (c : Var → Coefficients) → StandsFor (places_for counts) env.now c →
+    ensures form { (c : Var → Coefficients) →
+        IsTrue (all_variables_of (has_variable (places_for counts)) f.now) →
+        StandsFor (places_for counts) env.now c →
         IfOk result (λ n. IsNormal (places_for counts) (weights_of env.now) c f.now (tree n)) }
-    ensures holds { (x : Point) (a : Assignment) → StandsAt (places_for counts) env.now x a →
+    ensures holds { (x : Point) (a : Assignment) →
+        IsTrue (all_variables_of (has_variable (places_for counts)) f.now) →
+        StandsAt (places_for counts) env.now x a →
         IfOk result (λ n. tree_holds (tree n) x ≡ holds f.now a) }
 
     // Each polynomial has a norm below 2^62, a degree of at most 12 and places of the model alone.
     ensures sized { IfOk result (λ n. IsSized (place_count counts) (tree n)) }
+
+    // Where the variables of f are replaced by what has some places alone, so has each polynomial.
+    ensures only { (used : Var → Bool) (allowed : ℕ → Bool) → IsTrue (all_variables_of used f.now) →
+        StandsWithin (places_for counts) env.now used allowed →
+        IfOk result (λ n. TreeHasOnly allowed (tree n)) }
 {
     let weights = weights_of(alloc, env)?;
     if term_count(f, counts, &weights) > MOST_TERMS {
@@ -54,8 +64,9 @@ pub fn normal(alloc: Global, f: &Formula, counts: Counts, env: &[Scaled]) -> Res
     Ok(n)
 }
 
-// The number of terms of all comparisons, at most 2^64 - 1.
-fn term_count(f: &Formula, counts: Counts, weights: &[Weight]) -> u64
+/// The number of terms of all comparisons, at most 2^64 - 1, where `weights` are those of what stands
+/// at each place.
+pub fn term_count(f: &Formula, counts: Counts, weights: &[Weight]) -> u64
     requires size { length weights.now ≡ place_count counts }
     requires places { IsTrue (formula_has_places_below (places_for counts) (place_count counts) f.now) }
     ensures { result ≡ min (terms_of (places_for counts) weights.now f.now) (2 ^ 64 - 1) }
@@ -81,11 +92,18 @@ fn form(alloc: Global, f: &Formula, counts: Counts, env: &[Scaled]) -> Result<No
     requires places { IsTrue (formula_has_places_below (places_for counts) (place_count counts) f.now) }
     ensures within { IsOk result → comparisons_fit (places_for counts) (weights_of env.now) f.now ≡ true }
     ensures wide { result ≡ Err PolyErr.Wide → comparisons_fit (places_for counts) (weights_of env.now) f.now ≡ false }
-    ensures form { (c : Var → Coefficients) → StandsFor (places_for counts) env.now c →
+    ensures form { (c : Var → Coefficients) →
+        IsTrue (all_variables_of (has_variable (places_for counts)) f.now) →
+        StandsFor (places_for counts) env.now c →
         IfOk result (λ n. IsNormal (places_for counts) (weights_of env.now) c f.now (tree n)) }
-    ensures holds { (x : Point) (a : Assignment) → StandsAt (places_for counts) env.now x a →
+    ensures holds { (x : Point) (a : Assignment) →
+        IsTrue (all_variables_of (has_variable (places_for counts)) f.now) →
+        StandsAt (places_for counts) env.now x a →
         IfOk result (λ n. tree_holds (tree n) x ≡ holds f.now a) }
     ensures sized { IfOk result (λ n. IsSized (place_count counts) (tree n)) }
+    ensures only { (used : Var → Bool) (allowed : ℕ → Bool) → IsTrue (all_variables_of used f.now) →
+        StandsWithin (places_for counts) env.now used allowed →
+        IfOk result (λ n. TreeHasOnly allowed (tree n)) }
 {
     match f {
         Formula::True => {
@@ -128,11 +146,20 @@ fn compare(
     ensures within { IsOk result → fits (weight_between (places_for counts) (weights_of env.now) a.now b.now) ≡ true }
     ensures wide { result ≡ Err PolyErr.Wide →
         fits (weight_between (places_for counts) (weights_of env.now) a.now b.now) ≡ false }
-    ensures form { (c : Var → Coefficients) → StandsFor (places_for counts) env.now c →
+    ensures form { (c : Var → Coefficients) →
+        IsTrue (all_variables (has_variable (places_for counts)) a.now) →
+        IsTrue (all_variables (has_variable (places_for counts)) b.now) →
+        StandsFor (places_for counts) env.now c →
         IfOk result (λ n. IsComparison (places_for counts) (weights_of env.now) c cmp a.now b.now (tree n)) }
-    ensures holds { (x : Point) (v : Assignment) → StandsAt (places_for counts) env.now x v →
+    ensures holds { (x : Point) (v : Assignment) →
+        IsTrue (all_variables (has_variable (places_for counts)) a.now) →
+        IsTrue (all_variables (has_variable (places_for counts)) b.now) →
+        StandsAt (places_for counts) env.now x v →
         IfOk result (λ n. tree_holds (tree n) x ≡ compares cmp (value a.now v) (value b.now v)) }
     ensures sized { IfOk result (λ n. IsSized (place_count counts) (tree n)) }
+    ensures only { (used : Var → Bool) (allowed : ℕ → Bool) → IsTrue (all_variables used a.now) →
+        IsTrue (all_variables used b.now) → StandsWithin (places_for counts) env.now used allowed →
+        IfOk result (λ n. TreeHasOnly allowed (tree n)) }
 {
     match cmp {
         Cmp::Le => difference(alloc, Rel::Ge, b, a, counts, env),
@@ -164,11 +191,20 @@ fn difference(
     ensures within { IsOk result → fits (weight_between (places_for counts) (weights_of env.now) a.now b.now) ≡ true }
     ensures wide { result ≡ Err PolyErr.Wide →
         fits (weight_between (places_for counts) (weights_of env.now) a.now b.now) ≡ false }
-    ensures form { (c : Var → Coefficients) → StandsFor (places_for counts) env.now c →
+    ensures form { (c : Var → Coefficients) →
+        IsTrue (all_variables (has_variable (places_for counts)) a.now) →
+        IsTrue (all_variables (has_variable (places_for counts)) b.now) →
+        StandsFor (places_for counts) env.now c →
         IfOk result (λ n. IsAtom (places_for counts) (weights_of env.now) c rel a.now b.now (tree n)) }
-    ensures holds { (x : Point) (v : Assignment) → StandsAt (places_for counts) env.now x v →
+    ensures holds { (x : Point) (v : Assignment) →
+        IsTrue (all_variables (has_variable (places_for counts)) a.now) →
+        IsTrue (all_variables (has_variable (places_for counts)) b.now) →
+        StandsAt (places_for counts) env.now x v →
         IfOk result (λ n. tree_holds (tree n) x ≡ rel_holds rel (minus (value a.now v) (value b.now v))) }
     ensures sized { IfOk result (λ n. IsSized (place_count counts) (tree n)) }
+    ensures only { (used : Var → Bool) (allowed : ℕ → Bool) → IsTrue (all_variables used a.now) →
+        IsTrue (all_variables used b.now) → StandsWithin (places_for counts) env.now used allowed →
+        IfOk result (λ n. TreeHasOnly allowed (tree n)) }
 {
     let scaled = of_difference(alloc, a, b, counts, env)?;
     Ok(Norm::Atom(Atom {

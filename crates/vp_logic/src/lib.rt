@@ -12,7 +12,8 @@ mod splitting;
 #[cfg(test)]
 mod tests;
 
-pub use forming::normal;
+pub use forming::{normal, term_count};
+pub use making::{all_of, any_of};
 pub use members::{atoms, conjuncts};
 pub use negation::negate;
 pub use norm::{Atom, Norm, Norms, Rel};

@@ -1,10 +1,10 @@
 //! Negated normal forms.
-ghost use Rattle.std.specs.Prelude.{◌≡◌, ℕ, not, negsuc, length, IfOk};
+ghost use Rattle.std.specs.Prelude.{◌≡◌, ℕ, Bool, not, negsuc, length, IfOk};
 ghost use Rattle.vp_terms.specs.Rational.{Equals, product, whole};
 ghost use Rattle.vp_poly.specs.Poly.{IsPoly, IsWithin, degree, norm, scaled};
-ghost use Rattle.vp_poly.specs.Places.{AreBelow};
+ghost use Rattle.vp_poly.specs.Places.{AreBelow, HaveOnly};
 ghost use Rattle.vp_poly.specs.Value.{Point, value_at};
-ghost use Rattle.vp_logic.specs.Sized.{IsSizedAtom, IsSized, AreSized};
+ghost use Rattle.vp_logic.specs.Sized.{IsSizedAtom, IsSized, AreSized, TreeHasOnly, TreesHaveOnly};
 ghost use Rattle.vp_logic.specs.Truth.{atom_holds, tree_holds, all_hold, any_holds};
 ghost use Rattle.vp_logic.specs.Tree.{tree, trees, atom, negated_atom, negated, negated_each};
 
@@ -22,6 +22,8 @@ pub fn negate(alloc: Global, norm: &Norm) -> Result<Norm, AllocError>
     ensures form { IfOk result (λ m. tree m ≡ negated (tree norm.now)) }
     ensures holds { IfOk result (λ m. (x : Point) → tree_holds (tree m) x ≡ not (tree_holds (tree norm.now) x)) }
     ensures sized { (v : ℕ) → IsSized v (tree norm.now) → IfOk result (λ m. IsSized v (tree m)) }
+    ensures only { (allowed : ℕ → Bool) → TreeHasOnly allowed (tree norm.now) →
+        IfOk result (λ m. TreeHasOnly allowed (tree m)) }
 {
     match norm {
         Norm::Atom(atom) => negate_atom(alloc, atom),
@@ -37,6 +39,8 @@ fn negate_each(alloc: Global, norms: &Norms) -> Result<Norms, AllocError>
     ensures all { IfOk result (λ ms. (x : Point) → all_hold (trees ms) x ≡ not (any_holds (trees norms.now) x)) }
     ensures any { IfOk result (λ ms. (x : Point) → any_holds (trees ms) x ≡ not (all_hold (trees norms.now) x)) }
     ensures sized { (v : ℕ) → AreSized v (trees norms.now) → IfOk result (λ ms. AreSized v (trees ms)) }
+    ensures only { (allowed : ℕ → Bool) → TreesHaveOnly allowed (trees norms.now) →
+        IfOk result (λ ms. TreesHaveOnly allowed (trees ms)) }
 {
     match norms {
         Norms::End => Ok(Norms::End),
@@ -53,6 +57,8 @@ fn negate_atom(alloc: Global, atom: &Atom) -> Result<Norm, AllocError>
     ensures form { IfOk result (λ m. tree m ≡ negated_atom atom.now.rel atom.now.poly) }
     ensures holds { IfOk result (λ m. (x : Point) → tree_holds (tree m) x ≡ not (atom_holds atom.now x)) }
     ensures sized { (v : ℕ) → IsSizedAtom v atom.now → IfOk result (λ m. IsSized v (tree m)) }
+    ensures only { (allowed : ℕ → Bool) → HaveOnly allowed atom.now.poly →
+        IfOk result (λ m. TreeHasOnly allowed (tree m)) }
 {
     let below = negative(alloc, &atom.poly)?;
     match atom.rel {
@@ -81,6 +87,8 @@ fn negative(alloc: Global, poly: &Poly) -> Result<Poly, AllocError>
         Equals (value_at p x) (product (whole (negsuc 0)) (value_at poly.now x))) }
     ensures sized { IfOk result (λ p. IsWithin p (norm poly.now) (degree poly.now) (length poly.now)) }
     ensures places { (v : ℕ) → AreBelow v poly.now → IfOk result (AreBelow v) }
+    ensures only { (allowed : ℕ → Bool) → HaveOnly allowed poly.now →
+        IfOk result (HaveOnly allowed) }
 {
     let _terms = poly.len();
     poly.scale(alloc, -1)

@@ -1,9 +1,9 @@
 //! Normal forms with their places renamed.
-ghost use Rattle.std.specs.Prelude.{◌≡◌, ℕ, IfOk};
-ghost use Rattle.vp_poly.specs.Places.{IsRenaming, point_before};
+ghost use Rattle.std.specs.Prelude.{◌≡◌, ℕ, Bool, IfOk};
+ghost use Rattle.vp_poly.specs.Places.{HaveOnly, IsRenaming, SendsAllowed, point_before};
 ghost use Rattle.vp_poly.specs.Value.{Point};
 ghost use Rattle.vp_logic.specs.Renamed.{IsRenamedAtom, IsRenamed, AreRenamed, KeepsPlaces, SendsBelow};
-ghost use Rattle.vp_logic.specs.Sized.{IsSizedAtom, IsSized, AreSized};
+ghost use Rattle.vp_logic.specs.Sized.{IsSizedAtom, IsSized, AreSized, TreeHasOnly, TreesHaveOnly};
 ghost use Rattle.vp_logic.specs.Truth.{atom_holds, tree_holds, all_hold, any_holds};
 ghost use Rattle.vp_logic.specs.Tree.{tree, trees};
 
@@ -20,6 +20,8 @@ pub fn rename(alloc: Global, n: &Norm, to: &[u8; 32]) -> Result<Norm, AllocError
     ensures holds { IfOk result (λ m. (x : Point) → tree_holds (tree m) x ≡ tree_holds (tree n.now) (point_before to.now x)) }
     ensures copy { KeepsPlaces to.now → IfOk result (λ m. tree m ≡ tree n.now) }
     ensures sized { (v w : ℕ) → IsSized v (tree n.now) → SendsBelow to.now v w → IfOk result (λ m. IsSized w (tree m)) }
+    ensures only { (allowed kept : ℕ → Bool) → TreeHasOnly allowed (tree n.now) →
+        SendsAllowed to.now allowed kept → IfOk result (λ m. TreeHasOnly kept (tree m)) }
 {
     match n {
         Norm::Atom(atom) => Ok(Norm::Atom(rename_atom(alloc, atom, to)?)),
@@ -36,6 +38,8 @@ fn rename_each(alloc: Global, norms: &Norms, to: &[u8; 32]) -> Result<Norms, All
     ensures any { IfOk result (λ ms. (x : Point) → any_holds (trees ms) x ≡ any_holds (trees norms.now) (point_before to.now x)) }
     ensures copy { KeepsPlaces to.now → IfOk result (λ ms. trees ms ≡ trees norms.now) }
     ensures sized { (v w : ℕ) → AreSized v (trees norms.now) → SendsBelow to.now v w → IfOk result (λ ms. AreSized w (trees ms)) }
+    ensures only { (allowed kept : ℕ → Bool) → TreesHaveOnly allowed (trees norms.now) →
+        SendsAllowed to.now allowed kept → IfOk result (λ ms. TreesHaveOnly kept (trees ms)) }
 {
     match norms {
         Norms::End => Ok(Norms::End),
@@ -53,6 +57,8 @@ fn rename_atom(alloc: Global, atom: &Atom, to: &[u8; 32]) -> Result<Atom, AllocE
     ensures holds { IfOk result (λ a. (x : Point) → atom_holds a x ≡ atom_holds atom.now (point_before to.now x)) }
     ensures copy { KeepsPlaces to.now → IfOk result (λ a. a ≡ atom.now) }
     ensures sized { (v w : ℕ) → IsSizedAtom v atom.now → SendsBelow to.now v w → IfOk result (IsSizedAtom w) }
+    ensures only { (allowed kept : ℕ → Bool) → HaveOnly allowed atom.now.poly →
+        SendsAllowed to.now allowed kept → IfOk result (λ a. HaveOnly kept a.poly) }
 {
     let _terms = atom.poly.len();
     let poly = atom.poly.rename(alloc, to)?;

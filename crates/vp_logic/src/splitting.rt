@@ -4,7 +4,7 @@ ghost use Rattle.std.specs.List.{list_any};
 ghost use Rattle.vp_poly.specs.Value.{Point};
 ghost use Rattle.vp_logic.specs.Tree.{tree, trees, all_atoms, atoms_of, atoms_each};
 ghost use Rattle.vp_logic.specs.Truth.{parts_hold};
-ghost use Rattle.vp_logic.specs.Cases.{Refuses, all_cases_from, all_count, any_cases_from, any_count, case_count, case_holds, cases_from, joined, part_cases_from, part_count, lists};
+ghost use Rattle.vp_logic.specs.Cases.{AreWithin, Refuses, all_cases_from, all_count, any_cases_from, any_count, case_count, case_holds, cases_from, joined, part_cases_from, part_count, lists};
 
 use crate::{Norm, Norms};
 use std::alloc::{AllocError, Global};
@@ -35,10 +35,11 @@ const MOST_CASES: u64 = 256;
 /// has one case, itself; an `Or` has those of its members in order; an `And`, and the list, has all
 /// combinations, the last member varying fastest. All parts hold at a point exactly where all atoms
 /// of some case do.
-#[tactic(auto, using(crate::proofs::Choosing::splitting))]
+#[tactic(auto, using(crate::proofs::Choosing::splitting, crate::proofs::Bounding::cases_have_atoms))]
 pub fn cases(alloc: Global, parts: &[Norm]) -> Result<Vec<Vec<u32>>, CaseErr>
     requires { length (all_atoms (map tree parts.now)) < 2 ^ 32 }
     ensures exact { IfOk result (λ v. lists v.items ≡ part_cases_from 0 (map tree parts.now)) }
+    ensures places { IfOk result (λ v. AreWithin (length (all_atoms (map tree parts.now))) (lists v.items)) }
     ensures few { IsOk result → part_count (map tree parts.now) ≤ 256 }
     ensures many { IfErr result (Refuses (part_count (map tree parts.now))) }
     ensures holds { (x : Point) → IfOk result (λ v.

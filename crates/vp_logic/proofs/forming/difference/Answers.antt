@@ -8,20 +8,20 @@ use Rattle.vp_logic.proofs.forming.difference.Goals as goal
 
 pub returns-clause-form : goal.returns-clause-form
 returns-clause-form c =
-    λ f s.
+    λ f g h s.
     let d = ap (λ (k : Weights). k.den) c.in_ok-scaled.ensures.weight in (
       record { poly = c.in_ok-scaled.scaled.poly; rel = c.args.rel },
       refl,
-      record { rel_is = refl; canonical = canonical_over _ _ c.in_ok-scaled.scaled.poly _ d (c.in_ok-scaled.ensures.canonical f s) },
+      record { rel_is = refl; canonical = canonical_over _ _ c.in_ok-scaled.scaled.poly _ d (c.in_ok-scaled.ensures.canonical f g h s) },
     )
 
 pub returns-clause-holds : goal.returns-clause-holds
 returns-clause-holds c =
-    λ x v s.
+    λ x v g h s.
     multiple_holds
     c.args.rel
     c.in_ok-scaled.scaled.weight.den
     (value_at c.in_ok-scaled.scaled.poly x)
     (difference (value c.args.a.now v) (value c.args.b.now v))
     c.in_ok-scaled.ensures.positive
-    (c.in_ok-scaled.ensures.values x v s)
+    (c.in_ok-scaled.ensures.values x v g h s)
