@@ -145,14 +145,14 @@ mutual
 is_yes : Truth → Type 0
 is_yes t = t ≡ Yes
 
-none_first : (k : ℕ) (ts : List Truth) → first_from k ts ≡ None → All (λ t. t ≡ Yes) ts
+pub none_first : (k : ℕ) (ts : List Truth) → first_from k ts ≡ None → All (λ t. t ≡ Yes) ts
 unfolding is_yes
 none_first k [] e = All-nil is_yes
 none_first k (No ∷ ts) e = absurd (cc)
 none_first k (Maybe ∷ ts) e = absurd (cc)
 none_first k (Yes ∷ ts) e = All-cons is_yes Yes ts refl (none_first (suc k) ts e)
 
-first_none : (k : ℕ) (ts : List Truth) → All (λ t. t ≡ Yes) ts → first_from k ts ≡ None
+pub first_none : (k : ℕ) (ts : List Truth) → All (λ t. t ≡ Yes) ts → first_from k ts ≡ None
 unfolding is_yes
 first_none k [] h = refl
 first_none k (No ∷ ts) h = let e = All-head is_yes No ts h in absurd (cc)

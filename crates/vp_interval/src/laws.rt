@@ -1,5 +1,5 @@
 //! Laws of intervals: the contracts of these functions say them, and their bodies do nothing.
-ghost use Rattle.std.specs.Prelude.{◌≡◌, ◌<◌, ◌≤◌, ◌^◌, ℕ, ℤ, List, length, map, All, IsTrue};
+ghost use Rattle.std.specs.Prelude.{◌≡◌, ◌↔◌, ◌<◌, ◌≤◌, ◌^◌, ℕ, ℤ, List, None, Some, length, map, All, IsTrue};
 ghost use Rattle.vp_words.specs.Number.{IsFinite};
 ghost use Rattle.vp_terms.specs.Rational.{Rational, Equals, whole, sum as rational_sum, product as rational_product, power as rational_power};
 ghost use Rattle.vp_poly.specs.declared.mono.Term.{Term};
@@ -9,8 +9,9 @@ ghost use Rattle.vp_poly.specs.Value.{Point, value_at};
 ghost use Rattle.vp_logic.specs.Sized.{IsSized, EachIsSized};
 ghost use Rattle.vp_logic.specs.Tree.{Tree};
 ghost use Rattle.vp_logic.specs.Truth.{tree_holds, parts_hold};
+ghost use Rattle.vp_interval.specs.declared.truth.Truth.{Truth};
 ghost use Rattle.vp_interval.specs.declared.truth.Truth.TheVariants.{Yes};
-ghost use Rattle.vp_interval.specs.Formula.{FormFits, PartsFit, truth, truths};
+ghost use Rattle.vp_interval.specs.Formula.{FormFits, IsFirst, PartsFit, first_from, truth, truths};
 ghost use Rattle.vp_interval.specs.Interval.{ends};
 ghost use Rattle.vp_interval.specs.Polynomial.{AreSmall, interval_of};
 ghost use Rattle.vp_interval.specs.Represents.{Represents, RepresentEach, AreValid};
@@ -28,6 +29,18 @@ pub fn some_value_is_represented(v: Interval)
 pub fn some_values_are_represented(boxes: &[Interval])
     ensures valid { AreValid (map ends boxes.now) }
     ensures values { (x : Point) × RepresentEach (map ends boxes.now) x }
+{}
+
+/// The same of any list of ends that are valid.
+pub fn valid_boxes_represent_values()
+    ensures { (boxes : List Ends) → AreValid boxes → (x : Point) × RepresentEach boxes x }
+{}
+
+/// What the first truth that isn't Yes is, and that there is none exactly where all are Yes.
+pub fn first_truths()
+    ensures none { (ts : List Truth) → (first_from 1 ts ≡ None) ↔ All (λ t. t ≡ Yes) ts }
+    ensures some { (ts : List Truth) (k : ℕ) (t : Truth) → first_from 1 ts ≡ Some (k, t) →
+        IsFirst ts k t }
 {}
 
 /// Equal rationals stand in the same intervals.

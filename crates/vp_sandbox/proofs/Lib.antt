@@ -1,6 +1,10 @@
+pub mod Answered
+pub mod Boxed
+pub mod Fitted
 pub mod Fitting
 pub mod Passing
 pub mod Placing
 pub mod Pointing
 pub mod Rooms
 pub mod Saturating
+pub mod Valid

@@ -1,7 +1,8 @@
 -- Tests of lists, one item after the other.
-use Rattle.std.proofs.Common.{◌≡◌, ℕ, suc, ◌+◌, ◌<◌, ◌≤◌, List, [], ◌∷◌, length, map, drop, get_or, refl, sym, ap, ◌∙◌, subst, arith, Some, Bool, true, false, IsTrue, sum, max}
-use Rattle.vp_poly.specs.Poly.{degree}
-use Rattle.vp_sandbox.specs.Fits.{EachFits, HasOnly, HaveOnly, PolyFits, PolysFit, TreeFits}
+use Rattle.std.proofs.Common.{◌≡◌, ℕ, suc, ◌+◌, ◌<◌, ◌≤◌, List, [], ◌∷◌, length, map, drop, get_or, refl, sym, ap, ◌∙◌, subst, arith, Some, Bool, true, false, IsTrue}
+use Rattle.vp_poly.specs.Places.{HasOnly, HaveOnly}
+use Rattle.vp_poly.proofs.BelowLaws.{HaveOnly-cons, HaveOnly-first, HaveOnly-tail}
+use Rattle.vp_sandbox.specs.Fits.{EachFits, PolyFits, PolysFit, TreeFits}
 use Rattle.std.specs.List.{slice_get}
 use Rattle.std.proofs.lemmas.List.{drop_all, length-map}
 use Rattle.std.proofs.Math.ListN.{get_or-map}
@@ -52,15 +53,8 @@ pub within : {A B : Type 0} (g : A → B) (xs : List A) (i : ℕ) → i < length
 within g xs i h = rw length-map h
 
 -- how the lists of a sandbox split
-pub low-splits : Splits (λ ts. degree ts ≤ 12) (λ t. sum t.mono.powers ≤ 12)
-low-splits = record {
-  first = λ t ts h. let e : max (sum t.mono.powers) (degree ts) ≤ 12 = h in omega arith;
-  rest = λ t ts h. let e : max (sum t.mono.powers) (degree ts) ≤ 12 = h in omega arith;
-  both = λ t ts h k. let e : max (sum t.mono.powers) (degree ts) ≤ 12 = omega arith in e;
-}
-
 pub only-splits : (f : ℕ → Bool) → Splits (HaveOnly f) (λ t. HasOnly f t.mono.powers)
-only-splits f = record { first = λ t ts h. h.0; rest = λ t ts h. h.1; both = λ t ts h k. (h, k) }
+only-splits f = record { first = HaveOnly-first f; rest = HaveOnly-tail f; both = HaveOnly-cons f }
 
 pub polys-split : (f : ℕ → Bool) → Splits (PolysFit f) (PolyFits f)
 polys-split f = record { first = λ t ts h. h.0; rest = λ t ts h. h.1; both = λ t ts h k. (h, k) }

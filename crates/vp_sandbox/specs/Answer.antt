@@ -1,5 +1,5 @@
 -- The answer of a sandbox to a record.
-use Rattle.std.specs.Prelude.{ℕ, ◌+◌, List, map, replicate, take, drop, ℤ, pos, Bool, true, false, Option, None, Some}
+use Rattle.std.specs.Prelude.{ℕ, List, map, replicate, drop, ℤ, pos, Bool, true, false, Option, None, Some}
 use Rattle.vp_words.specs.declared.record.Due.{Due}
 use Rattle.vp_words.specs.declared.record.Due.TheVariants as due
 use Rattle.vp_words.specs.declared.record.Reply.{Reply}
@@ -7,7 +7,8 @@ use Rattle.vp_words.specs.declared.record.Reply.TheVariants as reply
 use Rattle.vp_words.specs.declared.record.Why.{Why}
 use Rattle.vp_words.specs.declared.record.Why.TheVariants as why
 use Rattle.vp_words.specs.Record.{padded}
-use Rattle.vp_stream.specs.Run.{Answerer}
+use Rattle.vp_words.specs.declared.record.Kind.TheVariants as kind
+use Rattle.vp_words.specs.Answerer.{Answerer}
 use Rattle.vp_logic.specs.Tree.{tree}
 use Rattle.vp_interval.specs.declared.truth.Truth.{Truth}
 use Rattle.vp_interval.specs.declared.truth.Truth.TheVariants.{Maybe, Yes}
@@ -15,7 +16,7 @@ use Rattle.vp_interval.specs.Formula.{truth, truths, first_from}
 use Rattle.vp_interval.specs.Polynomial.{interval_of}
 use Rattle.vp_interval.specs.Rounding.{Ends, point}
 use Rattle.vp_sandbox.specs.declared.sandbox.Sandbox.{Sandbox}
-use Rattle.vp_sandbox.specs.Boxes.{first_state, first_control, first_next_state, first_next_control, tau_place, boxes_of, placed, point_words}
+use Rattle.vp_sandbox.specs.Boxes.{first_state, first_control, boxes_of, placed, point_words, tested}
 use Rattle.vp_sandbox.specs.Sandbox.{State}
 
 -- the reply to a record, and the next state
@@ -40,7 +41,7 @@ init_verdict boxes (Some r) = violated (why.Init r.0 (is_unknown r.1)) boxes
 
 abbrev pub init_answer : Sandbox → List Ends → List ℤ → Answered
 init_answer s old words =
-    let boxes = placed 0 (boxes_of (s.counts.params + s.counts.states) words) old in
+    let boxes = tested s.counts kind.Init words old in
     init_verdict boxes (first_from 1 (truths boxes (map tree s.init)))
 
 -- the actuated words become the controls
@@ -62,7 +63,7 @@ choice_verdict s old boxes words t = fallback_verdict s boxes (point_words (map 
 
 abbrev pub choice_answer : Sandbox → List Ends → List ℤ → Answered
 choice_answer s old words =
-    let boxes = placed (first_next_control s.counts) (map point words) old in
+    let boxes = tested s.counts kind.Choice words old in
     choice_verdict s old boxes words (truth boxes (tree s.ctrl))
 
 -- a sensing sets `tau` and the next states; it is Ok where every plant conjunct is Yes there, and the
@@ -76,8 +77,7 @@ sense_verdict s boxes states (Some r) = violated (why.Plant r.0 (is_unknown r.1)
 
 abbrev pub sense_answer : Sandbox → List Ends → List ℤ → Answered
 sense_answer s old words =
-    let timed = placed (tau_place s.counts) (boxes_of 1 (take 2 words)) old in
-    let boxes = placed (first_next_state s.counts) (boxes_of s.counts.states (drop 2 words)) timed in
+    let boxes = tested s.counts kind.Sense words old in
     sense_verdict s boxes (drop 2 words) (first_from 1 (truths boxes (map tree s.plant)))
 
 -- the answer to the words of a record of the due kind; where nothing is due nothing changes
@@ -95,8 +95,8 @@ abbrev pub start : State
 start = record { boxes = replicate 32 (point (pos 0)); due = due.Init }
 
 -- a sandbox as what answers the records of a run
-abbrev pub answerer_of : Sandbox → Answerer State
-answerer_of s = record {
+abbrev pub sandbox_of : Sandbox → Answerer State
+sandbox_of s = record {
   counts = s.counts;
   start = start;
   due = λ st. st.due;

@@ -1,11 +1,12 @@
 -- Sandboxes that fit: small polynomials, each with the variables that may stand there.
-use Rattle.std.specs.Prelude.{◌≡◌, ⊤, ℕ, ◌<◌, ◌≤◌, ◌^◌, ◌==◌, Bool, false, ◌&&◌, ◌||◌, nat_lt, nat_le, Some, List, [], ◌∷◌, length, map, slice_index}
+use Rattle.std.specs.Prelude.{◌≡◌, ⊤, ℕ, ◌<◌, ◌≤◌, ◌^◌, ◌==◌, Bool, ◌&&◌, ◌||◌, nat_lt, nat_le, Some, List, [], ◌∷◌, length, map}
 use Rattle.vp_words.specs.declared.record.Counts.{Counts}
 use Rattle.vp_words.specs.declared.record.Kind.{Kind}
 use Rattle.vp_words.specs.declared.record.Due.{Due}
 use Rattle.vp_words.specs.declared.record.Due.TheVariants.{Ended}
 use Rattle.vp_words.specs.Record.{IsValid, kind_due}
 use Rattle.vp_poly.specs.declared.mono.Term.{Term}
+use Rattle.vp_poly.specs.Places.{HaveOnly}
 use Rattle.vp_poly.specs.Poly.{IsPoly, norm, degree}
 use Rattle.vp_logic.specs.Tree.{Tree, Trees, One, AllOf, AnyOf, None, Then, tree}
 use Rattle.vp_sandbox.specs.declared.sandbox.Sandbox.{Sandbox}
@@ -22,15 +23,6 @@ in_ctrl c k = nat_lt k (first_next_state c) || (nat_le (first_next_control c) k 
 -- parameters, states, controls, next states and `tau`
 abbrev pub in_plant : Counts → ℕ → Bool
 in_plant c k = nat_lt k (first_next_control c) || k == tau_place c
-
--- the monomial has these places alone
-pub record HasOnly (allowed : ℕ → Bool) (powers : List ℕ) : Type 0 where
-  pub others : (k : ℕ) → allowed k ≡ false → slice_index powers k ≡ 0
-
--- and so each term
-abbrev pub HaveOnly : (ℕ → Bool) → List Term → Type 0
-HaveOnly allowed [] = ⊤
-HaveOnly allowed (t ∷ ts) = HasOnly allowed t.mono.powers × HaveOnly allowed ts
 
 -- a polynomial with these places, a norm below 2^62 and a degree of at most 12
 pub record PolyFits (allowed : ℕ → Bool) (p : List Term) : Type 0 where

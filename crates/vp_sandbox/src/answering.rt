@@ -5,7 +5,7 @@ ghost use Rattle.vp_words.specs.declared.record.Turn.TheVariants as turn;
 ghost use Rattle.vp_words.specs.Record.{IsRecord, IsValid, padded, pairs_then_finite};
 ghost use Rattle.vp_interval.specs.Interval.{ends};
 ghost use Rattle.vp_interval.specs.Polynomial.{interval_of};
-ghost use Rattle.vp_sandbox.specs.Answer.{acted, answerer_of, choice_answer, init_answer, sense_answer, is_unknown};
+ghost use Rattle.vp_sandbox.specs.Answer.{acted, sandbox_of, choice_answer, init_answer, sense_answer, is_unknown};
 ghost use Rattle.vp_sandbox.specs.Boxes.{point_words};
 ghost use Rattle.vp_sandbox.specs.Fits.{Fits, IsDue};
 ghost use Rattle.vp_sandbox.specs.Sandbox.{shown};
@@ -26,9 +26,9 @@ pub fn answer(s: &Sandbox, st: &mut SandboxState, rec: &Record, out: &mut Reply)
     ensures ended { (result ≡ turn.Ended) ↔ (st.old.due ≡ due.Ended) }
     ensures same { result ≡ turn.Ended → (st.new ≡ st.old) × (out.new ≡ out.old) }
     ensures reply { result ≡ turn.Answered →
-        out.new ≡ (answerer_of s.now).reply (shown st.old) (take rec.now.len rec.now.words) }
+        out.new ≡ (sandbox_of s.now).reply (shown st.old) (take rec.now.len rec.now.words) }
     ensures next { result ≡ turn.Answered →
-        shown st.new ≡ (answerer_of s.now).next (shown st.old) (take rec.now.len rec.now.words) }
+        shown st.new ≡ (sandbox_of s.now).next (shown st.old) (take rec.now.len rec.now.words) }
 {
     if st.due == Due::Ended {
         return Turn::Ended;

@@ -3,7 +3,8 @@ ghost use Rattle.std.specs.Prelude.{◌≡◌, ◌<◌, ◌≤◌, ◌^◌, ◌�
 ghost use Rattle.vp_words.specs.Record.{IsValid};
 ghost use Rattle.vp_poly.specs.Poly.{degree};
 ghost use Rattle.vp_logic.specs.Tree.{tree, trees};
-ghost use Rattle.vp_sandbox.specs.Fits.{EachFits, Fits, HasOnly, HaveOnly, PolyFits, PolysFit, TreeFits, TreesFit, in_init};
+ghost use Rattle.vp_poly.specs.Places.{HasOnly, HaveOnly};
+ghost use Rattle.vp_sandbox.specs.Fits.{EachFits, Fits, PolyFits, PolysFit, TreeFits, TreesFit, in_init};
 ghost use Rattle.vp_sandbox.specs.Scope.{MonitorsFit, allows};
 
 use crate::Sandbox;
@@ -45,7 +46,7 @@ impl Sandbox {
         ensures { IsTrue result ↔ MonitorsFit self.now }
     {
         let counts = self.counts;
-        if !are_valid(counts) {
+        if !counts.is_valid() {
             return false;
         }
         if !conjuncts_fit(
@@ -74,13 +75,6 @@ impl Sandbox {
             self.plant.get(),
         )
     }
-}
-
-// Whether there is a state and a control, and at most 32 places.
-fn are_valid(counts: Counts) -> bool
-    ensures { IsTrue result ↔ IsValid counts }
-{
-    counts.states >= 1 && counts.controls >= 1 && tau_place(counts) < 32
 }
 
 // Whether conjuncts can be numbered.
@@ -152,20 +146,7 @@ fn polys_fit(scope: Scope, polys: &[Poly]) -> bool
 fn poly_fits(scope: Scope, poly: &Poly) -> bool
     ensures { IsTrue result ↔ PolyFits (allows scope) poly.now }
 {
-    poly.norm() < NORM_LIMIT && are_low(poly) && have_only(scope, poly)
-}
-
-// Whether the degree is low enough.
-#[tactic(auto, using(crate::proofs::Passing::passing))]
-fn are_low(poly: &Poly) -> bool
-    ensures { IsTrue result ↔ (degree poly.now ≤ 12) }
-{
-    for k in 0..poly.len() {
-        if poly.term(k).mono.degree() > MOST_DEGREE {
-            return false;
-        }
-    }
-    true
+    poly.norm() < NORM_LIMIT && poly.degree() <= MOST_DEGREE && have_only(scope, poly)
 }
 
 // Whether each term has the variables of this part alone.

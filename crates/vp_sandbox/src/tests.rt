@@ -1,5 +1,5 @@
-ghost use Rattle.std.specs.Prelude.{◌≡◌, ◌<◌, IfSome};
-ghost use Rattle.vp_words.specs.Record.{IsValid, kind_due, place_count};
+ghost use Rattle.std.specs.Prelude.{◌≡◌, ◌<◌, IfOk, IfSome};
+ghost use Rattle.vp_words.specs.Record.{IsRecord, IsValid, kind_due, place_count};
 ghost use Rattle.vp_poly.specs.Places.{places_for};
 ghost use Rattle.vp_sandbox.specs.Fits.{Fits, IsDue};
 
@@ -9,7 +9,6 @@ use std::process::Abort;
 use std::test::Fail;
 use vp_logic::{Norm, Norms, normal};
 use vp_poly::{Mono, Poly, Term, of_expr, plain};
-use vp_stream::read_record;
 use vp_terms::{Cmp, Expr, Formula, Items, Places, Ratio, Var};
 use vp_words::{Counts, Due, Kind, Record, Reply, Why, Word};
 
@@ -87,7 +86,7 @@ fn places(counts: Counts) -> Places
 fn limit(counts: Counts) -> u64
     ensures { result ≡ place_count counts }
 {
-    u64::from(counts.params) + 2 * u64::from(counts.states) + 2 * u64::from(counts.controls) + 1
+    counts.place_count().into()
 }
 
 // How the sum of these compares to 0.
@@ -259,7 +258,7 @@ fn fitting(rt: HostRuntime) -> Result<(), Fail> {
 }
 
 fn kind_due(due: Due) -> Option<Kind>
-    ensures { IfSome result (IsDue due) }
+    ensures { IfSome result (λ kind. IsDue due kind) }
 {
     match due {
         Due::Init => Some(Kind::Init),
@@ -269,20 +268,37 @@ fn kind_due(due: Due) -> Option<Kind>
     }
 }
 
-// The reply to the last of these lines.
-fn last_reply(s: &Sandbox, lines: &[&str]) -> Result<Reply, Fail>
+// A record: its kind and its words.
+type Line = (Kind, &'static [i64]);
+
+fn record(counts: Counts, (kind, values): Line) -> Result<Record, Fail>
+    requires { IsValid counts }
+    ensures { IfOk result (λ r. IsRecord counts r × (r.kind ≡ kind)) }
+{
+    let mut words = [Word::ZERO; 64];
+    for (word, value) in words.iter_mut().zip(values) {
+        *word = Word::of(*value).ok_or("no word")?;
+    }
+    let len = values.len().min(255) as u8;
+    let record = Record { kind, words, len };
+    if !record.is_valid(counts) {
+        return Err(Fail::new("no record"));
+    }
+    Ok(record)
+}
+
+// The reply to the last of these records.
+fn last_reply(s: &Sandbox, lines: &[Line]) -> Result<Reply, Fail>
     requires { Fits s.now }
 {
     let mut state = s.start();
     let mut reply = Reply::Ok;
     for line in lines {
         let due = kind_due(state.due).ok_or("nothing is due")?;
-        let mut record = Record {
-            kind: due,
-            words: [Word::ZERO; 64],
-            len: 0,
-        };
-        read_record(line.as_bytes(), due, s.counts, &mut record)?;
+        let record = record(s.counts, (due, line.1))?;
+        if due != line.0 {
+            return Err(Fail::new("another record is due"));
+        }
         answer(s, &mut state, &record, &mut reply);
     }
     Ok(reply)
@@ -306,13 +322,22 @@ fn init(k: u32, unknown: bool) -> Reply {
     Reply::Violation(Why::Init { k, unknown })
 }
 
-const BEGIN: &str = "i 1000 1000 500 502 0";
+const BEGIN: Line = (Kind::Init, &[1000, 1000, 500, 502, 0]);
 
-const BELOW: &str = "i 1000 1000 -inf 502 0";
+// `-inf`
+const UNBOUNDED: i64 = -i64::MAX;
 
-const LARGEST: &str = "i 9223372036854775806 9223372036854775806 -9223372036854775806 0 0";
+const BELOW: Line = (Kind::Init, &[1000, 1000, UNBOUNDED, 502, 0]);
 
-const SENSE: &str = "s 10 10 551 553";
+const MOST: i64 = i64::MAX - 1;
+
+const LARGEST: Line = (Kind::Init, &[MOST, MOST, -MOST, 0, 0]);
+
+const FIVE: Line = (Kind::Choice, &[5]);
+
+const SIX: Line = (Kind::Choice, &[6]);
+
+const SENSE: Line = (Kind::Sense, &[10, 10, 551, 553]);
 
 #[test]
 fn replies_of_the_tank(rt: HostRuntime) -> Result<(), Fail> {
@@ -320,23 +345,34 @@ fn replies_of_the_tank(rt: HostRuntime) -> Result<(), Fail> {
     if !s.fits() {
         return Err(Fail::new("the tank doesn't fit"));
     }
-    let rows: [(&[&str], Reply); 16] = [
+    let near: Line = (Kind::Init, &[1000, 1000, 930, 930, 0]);
+    let around: Line = (Kind::Init, &[1000, 1000, 929, 931, 0]);
+    let rows: [(&[Line], Reply); 16] = [
         (&[BEGIN], Reply::Ok),
-        (&[BEGIN, "c 5"], act(5, false)),
-        (&[BEGIN, "c 5", SENSE], Reply::Ok),
-        (&[BEGIN, "c 5", SENSE, "c 60"], act(-3, true)),
-        (&["i 1000 1000 930 930 0"], Reply::Ok),
-        (&["i 1000 1000 930 930 0", "c 6"], act(6, false)),
-        (&["i 1000 1000 929 931 0"], Reply::Ok),
-        (&["i 1000 1000 929 931 0", "c 6"], act(-3, true)),
-        (&[BEGIN, "c 5", "s 10 10 540 553"], plant(3, true)),
-        (&[BEGIN, "c 5", "s 10 10 600 601"], plant(4, false)),
-        (&[BEGIN, "c 5", "s 11 11 551 553"], plant(2, false)),
+        (&[BEGIN, FIVE], act(5, false)),
+        (&[BEGIN, FIVE, SENSE], Reply::Ok),
+        (&[BEGIN, FIVE, SENSE, (Kind::Choice, &[60])], act(-3, true)),
+        (&[near], Reply::Ok),
+        (&[near, SIX], act(6, false)),
+        (&[around], Reply::Ok),
+        (&[around, SIX], act(-3, true)),
+        (
+            &[BEGIN, FIVE, (Kind::Sense, &[10, 10, 540, 553])],
+            plant(3, true),
+        ),
+        (
+            &[BEGIN, FIVE, (Kind::Sense, &[10, 10, 600, 601])],
+            plant(4, false),
+        ),
+        (
+            &[BEGIN, FIVE, (Kind::Sense, &[11, 11, 551, 553])],
+            plant(2, false),
+        ),
         (&[BELOW], Reply::Ok),
-        (&[BELOW, "c 5"], act(5, false)),
-        (&[BELOW, "c 5", SENSE], plant(4, true)),
+        (&[BELOW, FIVE], act(5, false)),
+        (&[BELOW, FIVE, SENSE], plant(4, true)),
         (&[LARGEST], Reply::Ok),
-        (&["i 1000 1000 999 1001 0"], init(1, true)),
+        (&[(Kind::Init, &[1000, 1000, 999, 1001, 0])], init(1, true)),
     ];
     for (lines, wanted) in rows {
         assert_eq!(rt; last_reply(&s, lines)?, wanted);

@@ -1,5 +1,5 @@
 use Rattle.std.proofs.lemmas.Option.{slice_get_within}
-use Rattle.vp_sandbox.specs.Fits.{HasOnly, HaveOnly}
+use Rattle.vp_poly.specs.Places.{HasOnly, HaveOnly}
 use Rattle.vp_sandbox.specs.Scope.{allows}
 use Rattle.vp_sandbox.proofs.Passing.{Left-more, Left-stop, only-splits, read, fails, refused}
 use Rattle.vp_sandbox.proofs.fit.have_only.Goals as goal

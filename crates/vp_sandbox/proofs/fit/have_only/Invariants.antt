@@ -1,4 +1,4 @@
-use Rattle.vp_sandbox.specs.Fits.{HaveOnly}
+use Rattle.vp_poly.specs.Places.{HaveOnly}
 use Rattle.vp_sandbox.specs.Scope.{allows}
 use Rattle.vp_sandbox.proofs.Passing.{Left}
 use Rattle.vp_sandbox.proofs.fit.have_only.Given as goal

@@ -11,7 +11,7 @@ returns c =
     let e = rw c.get.ensures at c.conjuncts_fit.ensures in
     let f = rw c.get-2.ensures at c.conjuncts_fit-2.ensures in (
       λ t. record {
-        counts = c.are_valid.ensures.0 c.if-not-are_valid.false;
+        counts = c.is_valid.ensures.valid.0 c.if-not-is_valid.false;
         init = e.0 c.if-not-conjuncts_fit.false;
         ctrl = c.form_fits.ensures.0 c.if-not-form_fits.false;
         plant = f.0 t;
