@@ -271,9 +271,10 @@ fn kind_due(due: Due) -> Option<Kind>
 // A record: its kind and its words.
 type Line = (Kind, &'static [i64]);
 
-fn record(counts: Counts, (kind, values): Line) -> Result<Record, Fail>
+fn record(counts: Counts, kind: Kind, values: &[i64]) -> Result<Record, Fail>
     requires { IsValid counts }
-    ensures { IfOk result (λ r. IsRecord counts r × (r.kind ≡ kind)) }
+    ensures record { IfOk result (IsRecord counts) }
+    ensures kind { IfOk result (λ r. r.kind ≡ kind) }
 {
     let mut words = [Word::ZERO; 64];
     for (word, value) in words.iter_mut().zip(values) {
@@ -295,7 +296,7 @@ fn last_reply(s: &Sandbox, lines: &[Line]) -> Result<Reply, Fail>
     let mut reply = Reply::Ok;
     for line in lines {
         let due = kind_due(state.due).ok_or("nothing is due")?;
-        let record = record(s.counts, (due, line.1))?;
+        let record = record(s.counts, due, line.1)?;
         if due != line.0 {
             return Err(Fail::new("another record is due"));
         }
