@@ -1,8 +1,10 @@
-use crate::{Atom, CaseErr, Norm, Rel, atoms, cases, conjuncts, negate, normal};
+ghost use Rattle.vp_poly.specs.Places.{IsRenaming};
+
+use crate::{Atom, CaseErr, Norm, Rel, all_of, any_of, atoms, cases, conjuncts, negate, normal, rename};
 use std::alloc::Global;
 use std::process::Abort;
 use std::test::Fail;
-use vp_poly::{PolyErr, plain};
+use vp_poly::{PolyErr, Term, plain};
 use vp_terms::{Cmp, Expr, Formula, Places, Ratio, Var};
 use vp_words::Counts;
 
@@ -182,5 +184,98 @@ fn is_wide(alloc: Global, exponent: u32) -> Result<bool, Fail> {
 fn wide_comparisons(rt: HostRuntime) -> Result<(), Fail> {
     assert_eq!(rt; is_wide(rt.alloc(), 12)?, false);
     assert_eq!(rt; is_wide(rt.alloc(), 13)?, true);
+    Ok(())
+}
+
+// The places that stay, each at its own place.
+const PLACES_AS_THEY_ARE: [u8; 32] = [
+    0, 1, 2, 3, 4, 5, 6, 7, 8, 9, 10, 11, 12, 13, 14, 15, 16, 17, 18, 19, 20, 21, 22, 23, 24, 25, 26, 27, 28,
+    29, 30, 31,
+];
+
+// Two places exchanged.
+fn exchanged(i: u8, j: u8) -> [u8; 32]
+    ensures { IsRenaming result }
+{
+    let mut to = PLACES_AS_THEY_ARE;
+    to.swap(usize::from(i % 32), usize::from(j % 32));
+    to
+}
+
+// The exponents of H, x and the control, and the coefficient.
+fn first_powers(term: &Term) -> ([u8; 3], i128) {
+    let powers = term.mono.powers;
+    ([powers[0], powers[1], powers[2]], term.coef)
+}
+
+// The two terms of an atom.
+fn terms(atom: &Atom) -> Option<[([u8; 3], i128); 2]> {
+    if atom.poly.len() != 2 {
+        return None;
+    }
+    Some([
+        first_powers(&atom.poly.term(0)),
+        first_powers(&atom.poly.term(1)),
+    ])
+}
+
+#[test]
+fn renamed_forms(rt: HostRuntime) -> Result<(), Fail> {
+    let alloc = rt.alloc();
+    let n = form(alloc, &Formula::Cmp(Cmp::Le, level(), height()))?;
+    let rows = [
+        (0, 0, [([1, 0, 0], 1), ([0, 1, 0], -1)]),
+        (0, 1, [([1, 0, 0], -1), ([0, 1, 0], 1)]),
+        (1, 2, [([1, 0, 0], 1), ([0, 0, 1], -1)]),
+        (0, 2, [([0, 1, 0], -1), ([0, 0, 1], 1)]),
+    ];
+    for (i, j, wanted) in rows {
+        let found = atoms(alloc, &[rename(alloc, &n, &exchanged(i, j))?])?;
+        assert_eq!(rt; found.len(), 1);
+        for atom in &found {
+            assert_eq!(rt; terms(atom), Some(wanted));
+        }
+    }
+    Ok(())
+}
+
+// Without the count inside, 2^63 lists would be made for the part that never holds.
+#[test]
+fn count_inside_a_form(rt: HostRuntime) -> Result<(), Fail> {
+    let alloc = rt.alloc();
+    let mut never = Formula::Cmp(Cmp::Ne, level(), height());
+    for _ in 1..63 {
+        let beside = Formula::Cmp(Cmp::Ne, level(), height());
+        never = Formula::And(Box::new(alloc, never)?, Box::new(alloc, beside)?);
+    }
+    let denied = not(alloc, Formula::True)?;
+    never = Formula::And(Box::new(alloc, never)?, Box::new(alloc, denied)?);
+    let above = Formula::Cmp(Cmp::Le, level(), height());
+    let n = form(alloc, &either(alloc, never, above)?)?;
+    assert_eq!(rt; listed(&rt, alloc, &[n])?, Ok(1));
+    Ok(())
+}
+
+#[test]
+fn lists_as_forms(rt: HostRuntime) -> Result<(), Fail> {
+    let alloc = rt.alloc();
+    for joined_by_or in [false, true] {
+        let mut forms = Vec::new(alloc);
+        for cmp in [Cmp::Gt, Cmp::Lt, Cmp::Ge] {
+            forms.push(form(alloc, &Formula::Cmp(cmp, level(), height()))?)?;
+        }
+        let n = if joined_by_or {
+            any_of(alloc, forms)?
+        } else {
+            all_of(alloc, forms)?
+        };
+        assert_eq!(rt; is_or(&n), joined_by_or);
+        let rows = [
+            Some((-1, 1, Rel::Gt)),
+            Some((1, -1, Rel::Gt)),
+            Some((-1, 1, Rel::Ge)),
+        ];
+        assert_eq!(rt; all_shown(alloc, &[n])?.as_slice(), rows.as_slice());
+    }
     Ok(())
 }

@@ -30,3 +30,4 @@ pub mod Following
 pub mod Splitting
 pub mod WholeLaws
 pub mod Saturation
+pub mod Existing

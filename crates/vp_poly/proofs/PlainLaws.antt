@@ -61,16 +61,16 @@ powers_value-mark (suc n) (suc k) j x h =
     subst (λ (i : ℕ). Equals (product (whole (pos 1)) (powers_value (suc j) (mark n k) x)) (x i)) e
     (chain (Equals-sym _ _ (product-one (powers_value (suc j) (mark n k) x))) (powers_value-mark n k (suc j) x (omega arith)))
 
-value_at-itself : (k : ℕ) (x : Point) → k < 32 → Equals (value_at (itself k).poly x) (x k)
+pub value_at-itself : (k : ℕ) (x : Point) → k < 32 → Equals (value_at (itself k).poly x) (x k)
 value_at-itself k x h =
     let e : 0 + k ≡ k = omega arith in
     let here = subst (λ (i : ℕ). Equals (powers_value 0 (unit k) x) (x i)) e (powers_value-mark 32 k 0 x h) in
     chain (Equals-sym _ _ (sum-zero (product (whole (pos 1)) (powers_value 0 (unit k) x)))) (chain (Equals-sym _ _ (product-one (powers_value 0 (unit k) x))) here)
 
-one_times : (v q : Rational) → Equals v q → IsTimes 1 v q
+pub one_times : (v q : Rational) → Equals v q → IsTimes 1 v q
 one_times v q e = record { same = chain e (product-one q) }
 
-coefficients-itself : (k : ℕ) → HasCoefficients 1 (itself k).poly (λ m. fraction_at (unit k) m (whole (pos 1)))
+pub coefficients-itself : (k : ℕ) → HasCoefficients 1 (itself k).poly (λ m. fraction_at (unit k) m (whole (pos 1)))
 coefficients-itself k = record {
   each = λ m.
       let e : only_at (unit k) m (pos 1) ≡ only_at (unit k) m (pos 1) +ℤ pos 0 = omega (arith, ints) in
@@ -84,7 +84,7 @@ IsBelow-unit n k h = record {
       get_or-set_other (replicate 32 0) k j 1 0 apart ∙ get_or-same 0 32 j;
 }
 
-IsEntry-itself : (n k : ℕ) → k < n → IsEntry n (itself k)
+pub IsEntry-itself : (n k : ℕ) → k < n → IsEntry n (itself k)
 IsEntry-itself n k h = record {
   places = AreBelow-cons n (record { mono = record { powers = unit k }; coef = pos 1 }) [] (IsBelow-unit n k h) (AreBelow-nil n);
   within = record { norm_le = omega (arith, norm-cons (record { mono = record { powers = unit k }; coef = pos 1 }) []); degree_le = omega (arith, sum-unit k); length_le = omega arith };

@@ -105,7 +105,7 @@ HasPower-none ts ps w e p = record {
   values = λ x q h. subst (λ (d : ℕ). IsTimes d (value_at ps x) (whole (pos 1))) (sym (pow_zero w.den)) (number-values (pos 1) (pos 1) ps (record { mono = record { powers = replicate 32 0 }; coef = pos 1 }) _ (whole (pos 1)) x refl e refl refl refl);
 }
 
-power_next : (ts ps zs : List Term) (w : Weights) (i : ℕ) → IsWeighed ts w → HasPower ts w i ps → IsPoly zs →
+pub power_next : (ts ps zs : List Term) (w : Weights) (i : ℕ) → IsWeighed ts w → HasPower ts w i ps → IsPoly zs →
     ((m : Powers) → coef zs m ≡ split_sum m (λ a b. coef ts a *ℤ coef ps b)) →
     ((a : Point) → Equals (value_at zs a) (product (value_at ts a) (value_at ps a))) →
     IsWithin zs (norm ts * norm ps) (degree ts + degree ps) (length ts * length ps) →

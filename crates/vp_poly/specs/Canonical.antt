@@ -1,5 +1,6 @@
 -- What it is to be the canonical polynomial of an expression, and what stands for its variables.
 use Rattle.std.specs.Prelude.{◌≡◌, true, List, [], ◌∷◌, ℕ, length, map, pos, replicate, slice_get, slice_set, Bool, IfSome, IsTrue, All}
+use Rattle.std.specs.List.{range_with_len}
 use Rattle.vp_terms.specs.Rational.{whole}
 use Rattle.vp_terms.specs.Places.{place, has_variable}
 use Rattle.vp_terms.specs.Meaning.{Assignment}
@@ -59,6 +60,13 @@ unit k = slice_set (replicate 32 0) k 1
 -- the variable at place k, with its weight
 abbrev pub itself : ℕ → Scaled
 itself k = record { poly = (record { mono = record { powers = unit k }; coef = pos 1 }) ∷ []; weight = weight_one }
+
+-- n variables that stand for themselves, and their weights
+abbrev pub selves : ℕ → List Scaled
+selves n = map itself (range_with_len 0 n)
+
+abbrev pub own_weights : ℕ → List Weights
+own_weights n = weights_of (selves n)
 
 -- the coefficients of the variables
 abbrev pub variables : Places → Var → Coefficients

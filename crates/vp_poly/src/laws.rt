@@ -1,9 +1,9 @@
 //! Laws of polynomials, weights and coefficients: the contracts of these functions say them, and
 //! their bodies do nothing.
-ghost use Rattle.std.specs.Prelude.{◌≡◌, ◌*◌, ◌/◌, ◌+ℤ◌, ◌*ℤ◌, ◌<◌, ℕ, ℤ, Bool, IsTrue, List, length, nat_lt, pos, swap, true};
+ghost use Rattle.std.specs.Prelude.{◌≡◌, ◌*◌, ◌/◌, ◌+ℤ◌, ◌*ℤ◌, ◌<◌, ◌≤◌, ℕ, ℤ, Bool, IsTrue, List, length, nat_lt, pos, swap, true};
 ghost use Rattle.std.specs.List.{range_with_len};
 ghost use Rattle.std.specs.Int.{IsGcd};
-ghost use Rattle.vp_terms.specs.Rational.{Rational, Equals, product, sum, whole};
+ghost use Rattle.vp_terms.specs.Rational.{Rational, Equals, difference, product, sum, whole};
 ghost use Rattle.vp_terms.specs.Meaning.{Assignment, value, compares, holds};
 ghost use Rattle.vp_terms.specs.Places.{place_count, has_variable};
 ghost use Rattle.vp_terms.specs.Tree.{expr_tree};
@@ -23,9 +23,9 @@ ghost use Rattle.vp_poly.specs.Lcm.{Shares, gcd, lcm};
 ghost use Rattle.vp_poly.specs.Coefficient.{Coefficients, coefficients, times};
 ghost use Rattle.vp_poly.specs.Product.{split_sum};
 ghost use Rattle.vp_poly.specs.Times.{HasCoefficients, IsTimes};
-ghost use Rattle.vp_poly.specs.Weights.{Weights, fits, weight, weight_in};
+ghost use Rattle.vp_poly.specs.Weights.{Weights, fits, weight, weight_between, weight_in};
 ghost use Rattle.vp_poly.specs.Unbounded.{exact_weight, all_fit};
-ghost use Rattle.vp_poly.specs.Canonical.{IsCanonical, values_at};
+ghost use Rattle.vp_poly.specs.Canonical.{IsCanonical, own_weights, values_at, variables};
 ghost use Rattle.vp_poly.specs.Replaced.{formula_replaced, replaced};
 
 /// A polynomial is known by its coefficients, so an expression has one canonical polynomial.
@@ -188,4 +188,30 @@ pub fn coefficients_combine()
         HasCoefficients (d * e) zs (times f g) }
     ensures multiples { (k d : ℕ) (xs zs : List Term) (f : Coefficients) → HasCoefficients d xs f →
         ((m : Powers) → coef zs m ≡ pos k *ℤ coef xs m) → HasCoefficients (k * d) zs f }
+{}
+
+/// Where variables stand for themselves, an expression that isn't over has a canonical polynomial, and
+/// what is the canonical polynomial of an expression, or of the difference of two, has its values.
+pub fn canonical_polynomials_have_values()
+    ensures some { (p : Places) → place_count p ≤ 32 → (e : Expr) →
+        IsTrue (all_variables (has_variable p) e) →
+        fits (weight_in p (own_weights (place_count p)) e) ≡ true →
+        (ts : List Term) ×
+        IsCanonical (weight_in p (own_weights (place_count p)) e).den ts (coefficients (variables p) e) }
+    ensures values { (p : Places) → place_count p ≤ 32 → (e : Expr) →
+        IsTrue (all_variables (has_variable p) e) →
+        fits (weight_in p (own_weights (place_count p)) e) ≡ true → (ts : List Term) →
+        IsCanonical (weight_in p (own_weights (place_count p)) e).den ts (coefficients (variables p) e) →
+        (x : Point) (a : Assignment) → IsAt p x a →
+        (0 < (weight_in p (own_weights (place_count p)) e).den) ×
+        IsTimes (weight_in p (own_weights (place_count p)) e).den (value_at ts x) (value e a) }
+    ensures differences { (p : Places) → place_count p ≤ 32 → (e f : Expr) →
+        IsTrue (all_variables (has_variable p) e) → IsTrue (all_variables (has_variable p) f) →
+        fits (weight_between p (own_weights (place_count p)) e f) ≡ true → (ts : List Term) →
+        IsCanonical (weight_between p (own_weights (place_count p)) e f).den ts
+        (λ m. difference (coefficients (variables p) e m) (coefficients (variables p) f m)) →
+        (x : Point) (a : Assignment) → IsAt p x a →
+        (0 < (weight_between p (own_weights (place_count p)) e f).den) ×
+        IsTimes (weight_between p (own_weights (place_count p)) e f).den (value_at ts x)
+        (difference (value e a) (value f a)) }
 {}

@@ -38,7 +38,9 @@ impl Mono {
 
 /// The greater degree stands first, and then the greater power at the first place that differs.
 impl Ord for Mono {
-    ghost cmp = { then_cmp (flip_args (on (λ m. sum m.powers) nat_cmp)) (flip_args (on (λ m. m.powers) (slice_cmp nat_cmp))) };
+    ghost use Rattle.vp_poly.specs.Poly.{mono_cmp};
+
+    ghost cmp = { mono_cmp };
 
     ghost total = { Prim.search (comparing, rules) };
 
@@ -55,7 +57,9 @@ impl Ord for Mono {
 }
 
 impl PartialOrd for Mono {
-    ghost partial_cmp = { as_partial_cmp (then_cmp (flip_args (on (λ m. sum m.powers) nat_cmp)) (flip_args (on (λ m. m.powers) (slice_cmp nat_cmp)))) };
+    ghost use Rattle.vp_poly.specs.Poly.{mono_cmp};
+
+    ghost partial_cmp = { as_partial_cmp mono_cmp };
 
     ghost laws = { partial_order_from_own_ties (Prim.search (comparing, rules)) (Prim.search (comparing, rules)) };
 
