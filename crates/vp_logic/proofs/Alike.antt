@@ -1,7 +1,7 @@
 -- Formulas with one tree have the same normal forms.
-use Rattle.std.proofs.Common.{◌≡◌, ◌+◌, Bool, true, ◌&&◌, nat_le, ℕ, List, refl, sym, ap, ap₂, ◌∙◌, subst}
+use Rattle.std.proofs.Common.{◌≡◌, ◌+◌, Bool, ◌&&◌, nat_le, ℕ, List, refl, ap, ap₂, subst}
 use Rattle.vp_terms.specs.Rational.{difference}
-use Rattle.vp_terms.specs.Tree.{Always, Compares, Both, Either, Denial, expr_tree, formula_tree}
+use Rattle.vp_terms.specs.Tree.{expr_tree, formula_tree}
 use Rattle.vp_terms.specs.declared.expr.Places.{Places}
 use Rattle.vp_terms.specs.declared.expr.Var.{Var}
 use Rattle.vp_terms.specs.declared.expr.Expr.{Expr}
@@ -9,13 +9,13 @@ use Rattle.vp_terms.specs.declared.formula.Cmp.{Cmp}
 use Rattle.vp_terms.specs.declared.formula.Cmp.TheVariants as cmp
 use Rattle.vp_terms.specs.declared.formula.Formula.{Formula}
 use Rattle.vp_terms.specs.declared.formula.Formula.TheVariants.{True, Cmp as Compare, And', Or', Not'}
-use Rattle.vp_poly.specs.Weights.{Weights, fits, weight_sum, weight_between, weight_in}
+use Rattle.vp_poly.specs.Weights.{Weights, fits, weight_sum, weight_between}
 use Rattle.vp_poly.specs.Coefficient.{Coefficients, coefficients}
 use Rattle.vp_poly.specs.Canonical.{IsCanonical}
 use Rattle.vp_poly.proofs.Alike.{weight-alike, coefficients-alike}
 use Rattle.vp_logic.specs.declared.norm.Rel.{Rel}
 use Rattle.vp_logic.specs.declared.norm.Rel.TheVariants.{Ge, Gt, Eq}
-use Rattle.vp_logic.specs.Tree.{Tree, AllOf, AnyOf, None, Then, negated}
+use Rattle.vp_logic.specs.Tree.{Tree}
 use Rattle.vp_logic.specs.Narrow.{comparisons_fit, terms_of, is_narrow}
 use Rattle.vp_logic.specs.Normal.{IsAtom, IsComparison, IsNormal}
 

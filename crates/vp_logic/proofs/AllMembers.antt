@@ -1,9 +1,9 @@
 -- Lists of forms as members.
-use Rattle.std.proofs.Common.{◌≡◌, ℕ, Bool, ◌&&◌, ◌||◌, List, [], ◌∷◌, ◌++◌, map, refl, sym, ap, ◌∙◌}
+use Rattle.std.proofs.Common.{◌≡◌, ℕ, Bool, ◌&&◌, ◌||◌, List, [], ◌∷◌, ◌++◌, map, refl, ap}
 use Rattle.std.specs.List.{list_any}
 use Rattle.vp_poly.specs.Value.{Point}
 use Rattle.vp_logic.specs.declared.norm.Norm.{Norm}
-use Rattle.vp_logic.specs.Tree.{Tree, Trees, AllOf, AnyOf, None, Then, members, tree}
+use Rattle.vp_logic.specs.Tree.{Tree, Trees, None, Then, members, tree}
 use Rattle.vp_logic.specs.Truth.{tree_holds, all_hold, any_holds, parts_hold}
 use Rattle.vp_logic.specs.Sized.{AreSized, EachIsSized, EachHasOnly, TreesHaveOnly}
 

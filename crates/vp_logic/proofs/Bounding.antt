@@ -1,6 +1,6 @@
 -- How many atoms normal forms have, which places cases have, and the atoms of sized forms.
-use Rattle.std.proofs.Common.{◌≡◌, ℕ, ◌+◌, ◌*◌, ◌<◌, ◌≤◌, Bool, List, [], ◌∷◌, ◌++◌, length, map, length-append, refl, ap, ap₂, ◌∙◌, arith}
-use Rattle.std.specs.List.{All, flat_map}
+use Rattle.std.proofs.Common.{◌≡◌, ℕ, ◌+◌, ◌*◌, ◌<◌, ◌≤◌, Bool, List, [], ◌∷◌, ◌++◌, length, map, length-append, refl, ap, ◌∙◌, arith}
+use Rattle.std.specs.List.{All}
 use Rattle.std.proofs.lemmas.List.Elements.{All-append, All-cons, All-nil, All-head, All-tail}
 use Rattle.vp_terms.specs.declared.expr.Places.{Places}
 use Rattle.vp_terms.specs.declared.expr.Var.{Var}
@@ -14,7 +14,6 @@ use Rattle.vp_poly.specs.Weights.{Weights}
 use Rattle.vp_poly.specs.Coefficient.{Coefficients}
 use Rattle.vp_logic.specs.declared.norm.Rel.{Rel}
 use Rattle.vp_logic.specs.declared.norm.Rel.TheVariants.{Ge, Gt, Eq}
-use Rattle.vp_logic.specs.declared.norm.Atom.{Atom}
 use Rattle.vp_logic.specs.Cases.{Case, AreWithin, joined, cases_from, all_cases_from, any_cases_from, part_cases_from}
 use Rattle.vp_logic.specs.Narrow.{comparisons}
 use Rattle.vp_logic.specs.Normal.{IsAtom, IsComparison, IsNormal}

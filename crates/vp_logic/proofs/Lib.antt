@@ -2,6 +2,7 @@ pub mod Choosing
 pub mod Comparing
 pub mod Counting
 pub mod TwoMembers
+pub mod Holding
 pub mod Joining
 pub mod Lawful
 pub mod AllMembers

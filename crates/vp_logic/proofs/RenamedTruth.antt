@@ -1,7 +1,6 @@
 -- A renamed form holds at a point exactly where the form does at the point before.
-use Rattle.std.proofs.Common.{◌≡◌, ℕ, ◌&&◌, ◌||◌, List, refl, sym, ap, ap₂, ◌∙◌, pos}
+use Rattle.std.proofs.Common.{◌≡◌, ℕ, ◌&&◌, ◌||◌, List, refl, ap, ap₂, ◌∙◌, pos}
 use Rattle.vp_terms.specs.Rational.{Rational, whole, Equals}
-use Rattle.vp_terms.specs.Meaning.{compares}
 use Rattle.vp_terms.specs.declared.formula.Cmp.TheVariants as cmp
 use Rattle.vp_terms.proofs.RationalLaws.{Equals-refl}
 use Rattle.vp_terms.proofs.Orders.{same_comparison}

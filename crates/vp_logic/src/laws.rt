@@ -1,20 +1,23 @@
 //! Laws of normal forms: the contracts of these functions say them, and their bodies do nothing.
-ghost use Rattle.std.specs.Prelude.{◌≡◌, ◌↔◌, ◌*◌, ◌≤◌, ℕ, Bool, IsTrue, All, not, List, length};
+ghost use Rattle.std.specs.Prelude.{◌≡◌, ◌↔◌, ◌*◌, ◌≤◌, ℕ, Bool, IsTrue, All, not, true, List, length};
 ghost use Rattle.std.specs.List.{list_any};
-ghost use Rattle.vp_terms.specs.Places.{has_variable};
+ghost use Rattle.vp_terms.specs.Meaning.{Assignment, holds};
+ghost use Rattle.vp_terms.specs.Places.{has_variable, place_count};
 ghost use Rattle.vp_terms.specs.Tree.{formula_tree};
 ghost use Rattle.vp_terms.specs.Variables.{all_variables_of};
 ghost use Rattle.vp_terms.specs.declared.expr.Expr.{Expr};
 ghost use Rattle.vp_terms.specs.declared.expr.Places.{Places};
 ghost use Rattle.vp_terms.specs.declared.expr.Var.{Var};
 ghost use Rattle.vp_terms.specs.declared.formula.Formula.{Formula};
+ghost use Rattle.vp_poly.specs.Canonical.{own_weights, variables};
 ghost use Rattle.vp_poly.specs.Coefficient.{Coefficients, coefficients};
+ghost use Rattle.vp_poly.specs.Points.{IsAt};
 ghost use Rattle.vp_poly.specs.Places.{IsRenaming, point_before};
 ghost use Rattle.vp_poly.specs.Replaced.{formula_replaced};
 ghost use Rattle.vp_poly.specs.Value.{Point};
 ghost use Rattle.vp_poly.specs.Weights.{Weights, weight_at, weight_in};
 ghost use Rattle.vp_logic.specs.Cases.{AreWithin, case_holds, part_cases_from, part_count};
-ghost use Rattle.vp_logic.specs.Narrow.{comparisons, is_narrow, terms_of};
+ghost use Rattle.vp_logic.specs.Narrow.{comparisons, comparisons_fit, is_narrow, terms_of};
 ghost use Rattle.vp_logic.specs.Normal.{IsNormal};
 ghost use Rattle.vp_logic.specs.Renamed.{IsRenamed};
 ghost use Rattle.vp_logic.specs.Sized.{EachHasOnly, EachIsSized, IsSized, IsSizedAtom, TreeHasOnly};
@@ -32,6 +35,15 @@ pub fn forms_keep_their_meaning()
 pub fn normal_forms_are_unique()
     ensures { (p : Places) (ws : List Weights) (c : Var → Coefficients) (f : Formula) (t u : Tree) →
         IsNormal p ws c f t → IsNormal p ws c f u → t ≡ u }
+{}
+
+/// Where variables stand for themselves and no comparison is over, a normal form holds at each point
+/// exactly where the formula holds for the values that the model's variables have there.
+pub fn normal_forms_hold_as_formulas()
+    ensures { (p : Places) → place_count p ≤ 32 → (x : Point) (a : Assignment) → IsAt p x a →
+        (f : Formula) (t : Tree) → IsTrue (all_variables_of (has_variable p) f) →
+        comparisons_fit p (own_weights (place_count p)) f ≡ true →
+        IsNormal p (own_weights (place_count p)) (variables p) f t → tree_holds t x ≡ holds f a }
 {}
 
 /// Formulas that differ in their boxes alone have the same normal forms, and are narrow alike.

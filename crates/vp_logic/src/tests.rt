@@ -1,6 +1,8 @@
 ghost use Rattle.vp_poly.specs.Places.{IsRenaming};
 
-use crate::{Atom, CaseErr, Norm, Rel, all_of, any_of, atoms, cases, conjuncts, negate, normal, rename};
+use crate::{
+    Atom, CaseErr, Norm, Rel, all_of, any_of, atoms, cases, conjuncts, negate, normal, rename,
+};
 use std::alloc::Global;
 use std::process::Abort;
 use std::test::Fail;
@@ -189,8 +191,8 @@ fn wide_comparisons(rt: HostRuntime) -> Result<(), Fail> {
 
 // The places that stay, each at its own place.
 const PLACES_AS_THEY_ARE: [u8; 32] = [
-    0, 1, 2, 3, 4, 5, 6, 7, 8, 9, 10, 11, 12, 13, 14, 15, 16, 17, 18, 19, 20, 21, 22, 23, 24, 25, 26, 27, 28,
-    29, 30, 31,
+    0, 1, 2, 3, 4, 5, 6, 7, 8, 9, 10, 11, 12, 13, 14, 15, 16, 17, 18, 19, 20, 21, 22, 23, 24, 25,
+    26, 27, 28, 29, 30, 31,
 ];
 
 // Two places exchanged.
