@@ -14,7 +14,8 @@ use Rattle.vp_grammar.specs.Grammar.{Expression, expression_then, expression_tre
 use Rattle.vp_grammar.specs.Reads.{IsExpression, Fails, FailsAll}
 use Rattle.vp_grammar.specs.Front.{NotBegins}
 use Rattle.vp_grammar.specs.EntryReads.{Goes}
-use Rattle.vp_grammar.specs.Certificates.{TermTree, Product, Squares, Multiple, CertTree, CertForm, Later, Summed, Equated, labels_then, of_then, squares_then, later_then, laters_then, cert_terminals, later_tree, form_tree, label_of, part_word, is_no_fraction, SpellsCert}
+use Rattle.vp_grammar.specs.Certificates.{CertForm, Later, Summed, Equated, labels_then, of_then, squares_then, later_then, laters_then, cert_terminals, later_tree, form_tree, label_of, part_word, is_no_fraction, SpellsCert}
+use Rattle.vp_terms.specs.Packages.{TermTree, Product, Squares, Multiple, CertTree}
 use Rattle.vp_grammar.specs.CertificateReads.{IsLabel, IsProduct, MaybeOf, AreSquares, IsStrict, IsSum, IsEquation, IsLater, IsClosed, AreTerms, IsHead}
 use Rattle.vp_grammar.proofs.Lists.{behind_listed}
 use Rattle.vp_grammar.proofs.EntrySteps.{semicolon}

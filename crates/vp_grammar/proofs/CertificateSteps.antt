@@ -14,7 +14,8 @@ use Rattle.vp_grammar.specs.declared.fault.ParseErr.TheVariants.{Form, Memory}
 use Rattle.vp_grammar.specs.Reads.{IsExpression, Fails, Reads}
 use Rattle.vp_grammar.specs.Front.{NotBegins, IsWholeFront}
 use Rattle.vp_grammar.specs.EntryReads.{Goes, Behind}
-use Rattle.vp_grammar.specs.Certificates.{TermTree, Product, Squares, Multiple, label_of, part_word}
+use Rattle.vp_grammar.specs.Certificates.{label_of, part_word}
+use Rattle.vp_terms.specs.Packages.{TermTree, Product, Squares, Multiple}
 use Rattle.vp_grammar.specs.CertificateReads.{IsLabel, IsProduct, MaybeOf, IsBracketed, IsNoSquare, AreSquares, IsStrict, IsSum, IsEquation, IsLater, IsClosed, AreTerms, IsPart, IsHead}
 use Rattle.vp_grammar.proofs.Unique.{tail_of}
 use Rattle.vp_grammar.proofs.Lists.{Once, EndsOnce, Parts, SoFar, OtherThanEnd, listed_once, one_way, behind_once, steps_on, goes_on, ended}

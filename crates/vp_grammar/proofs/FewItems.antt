@@ -13,7 +13,8 @@ use Rattle.vp_grammar.specs.declared.terminal.Terminal.{Terminal}
 use Rattle.vp_grammar.specs.declared.terminal.Terminal.TheVariants as terminal
 use Rattle.vp_grammar.specs.declared.entries.Mark.{Mark}
 use Rattle.vp_grammar.specs.declared.entries.Mark.TheVariants as mark
-use Rattle.vp_grammar.specs.Entries.{SpellsNames, SpellsEntries, SpellsBounds, Entries, LastEntry, Entry, Bounds, LastBound, Bound, names_then, mark_then, entries_then, entry_trees, bounds_then, bound_trees, slack_tree}
+use Rattle.vp_grammar.specs.Entries.{SpellsNames, SpellsEntries, SpellsBounds, Entries, LastEntry, Entry, Bounds, LastBound, Bound, names_then, mark_then, entries_then, entry_trees, bounds_then, bound_trees}
+use Rattle.vp_terms.specs.Packages.{slack_tree}
 use Rattle.vp_grammar.specs.Grammar.{expression_then}
 use Rattle.vp_grammar.proofs.GoodTrees.{expression_longer}
 

@@ -24,8 +24,10 @@ use Rattle.vp_grammar.specs.declared.terminal.Terminal.TheVariants as terminal
 use Rattle.vp_grammar.specs.declared.entries.Mark.{Mark}
 use Rattle.vp_grammar.specs.declared.entries.Mark.TheVariants.{Rate, Setting}
 use Rattle.vp_grammar.specs.Grammar.{Expression, expression_then, expression_tree}
-use Rattle.vp_grammar.specs.Entries.{mark_then, Entries, LastEntry, Entry, entries_then, entry_trees, Bounds, LastBound, Bound, bounds_then, bound_trees, slack_tree, SpellsEntries, SpellsBounds, SpellsTimes}
-use Rattle.vp_grammar.specs.Certificates.{TermTree, Product, Squares, Multiple, CertForm, Later, Summed, Equated, labels_then, of_then, squares_then, later_then, laters_then, cert_terminals, later_tree, term_tree, cert_tree, label_of, part_word, SpellsCert}
+use Rattle.vp_grammar.specs.Entries.{mark_then, Entries, LastEntry, Entry, entries_then, entry_trees, Bounds, LastBound, Bound, bounds_then, bound_trees, SpellsEntries, SpellsBounds, SpellsTimes}
+use Rattle.vp_terms.specs.Packages.{slack_tree}
+use Rattle.vp_grammar.specs.Certificates.{CertForm, Later, Summed, Equated, labels_then, of_then, squares_then, later_then, laters_then, cert_terminals, later_tree, label_of, part_word, SpellsCert}
+use Rattle.vp_terms.specs.Packages.{TermTree, Product, Squares, Multiple, term_tree, cert_tree}
 use Rattle.vp_grammar.specs.Strays.{is_known, rates, sets, bounds}
 use Rattle.vp_grammar.proofs.Good.{may_stand, all_before, is_good_tree, may_enter}
 use Rattle.vp_grammar.proofs.GoodTrees.{Looks, looks_at_each, all_before_is, expression_good, good_expr_is, both, and_both}

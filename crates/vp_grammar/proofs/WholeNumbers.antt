@@ -16,7 +16,8 @@ use Rattle.vp_grammar.specs.declared.terminal.Word.TheVariants as word
 use Rattle.vp_grammar.specs.declared.terminal.Terminal.{Terminal}
 use Rattle.vp_grammar.specs.declared.terminal.Terminal.TheVariants as terminal
 use Rattle.vp_grammar.specs.Grammar.{Expression, Summed, Start, Positive, Negative, Terms, NoTerms, Added, Subtracted, Term, Factored, Factors, NoFactors, Times, Factor, Alone, Raised, Base, Literal, Named, Timed, Bracketed, expression_then, start_then, terms_then, term_then, factors_then, factor_then, base_then, expression_tree, start_tree, terms_tree, term_tree as tree_of_term, factors_tree, factor_tree, base_tree}
-use Rattle.vp_grammar.specs.Certificates.{TermTree, Product, Squares, Multiple, CertForm, Later, Summed as SummedTerm, Equated, labels_then, of_then, squares_then, later_then, laters_then, cert_terminals, is_no_fraction, is_whole_number, later_tree, term_tree, cert_tree, label_of, part_word, SpellsCert}
+use Rattle.vp_grammar.specs.Certificates.{CertForm, Later, Summed as SummedTerm, Equated, labels_then, of_then, squares_then, later_then, laters_then, cert_terminals, is_no_fraction, is_whole_number, later_tree, label_of, part_word, SpellsCert}
+use Rattle.vp_terms.specs.Packages.{TermTree, Product, Squares, Multiple, term_tree, cert_tree}
 use Rattle.vp_grammar.proofs.GoodTrees.{both, and_both}
 use Rattle.vp_grammar.proofs.EntrySteps.{semicolon}
 

@@ -11,7 +11,8 @@ use Rattle.vp_grammar.specs.declared.terminal.Terminal.TheVariants as terminal
 use Rattle.vp_grammar.specs.Reads.{IsExpression}
 use Rattle.vp_grammar.specs.Front.{NotBegins, IsWholeFront}
 use Rattle.vp_grammar.specs.EntryReads.{Goes, Behind, IsEnd, Listed}
-use Rattle.vp_grammar.specs.Certificates.{TermTree, Product, Squares, Multiple, label_of, part_word}
+use Rattle.vp_grammar.specs.Certificates.{label_of, part_word}
+use Rattle.vp_terms.specs.Packages.{TermTree, Product, Squares, Multiple}
 
 -- a label
 abbrev pub IsLabel : List Terminal → ℕ → List Terminal → Type 0

@@ -16,6 +16,7 @@ use Rattle.vp_grammar.specs.declared.terminal.Word.TheVariants as word
 use Rattle.vp_grammar.specs.declared.terminal.Terminal.{Terminal}
 use Rattle.vp_grammar.specs.declared.terminal.Terminal.TheVariants as terminal
 use Rattle.vp_grammar.specs.Grammar.{Expression, expression_then, expression_tree}
+use Rattle.vp_terms.specs.Packages.{TermTree, CertTree, Product, Squares, Multiple}
 
 -- wholes with `*` between
 abbrev pub labels_then : List Ratio → List Terminal → List Terminal
@@ -62,25 +63,6 @@ part_word part.Fallback = word.Fallback
 
 abbrev pub cert_terminals : CertForm → List Terminal
 cert_terminals c = terminal.Word word.Cert ∷ terminal.Word (part_word c.part) ∷ terminal.Number c.number true ∷ terminal.Symbol symbol.BraceOpen ∷ terminal.Word word.Pos ∷ terminal.Number c.times true ∷ of_then c.labels (terminal.Symbol symbol.Semicolon ∷ laters_then c.laters (terminal.Symbol symbol.BraceClose ∷ terminal.Symbol symbol.Semicolon ∷ []))
-
--- a term of a certificate, without boxes
-pub data TermTree : Type 0 where
-  Product : ℕ → List ℕ → TermTree
-  Squares : ℕ → List ExprTree → List ℕ → TermTree
-  Multiple : ℕ → ExprTree → TermTree
-
-pub record CertTree : Type 0 where
-  pub part : Part
-  pub number : ℕ
-  pub terms : List TermTree
-
-abbrev pub term_tree : CertTerm → TermTree
-term_tree (term.Pos times labels) = Product times labels
-term_tree (term.Sum times squares labels) = Squares times (map expr_tree squares) labels
-term_tree (term.Eq label times) = Multiple label (expr_tree times)
-
-abbrev pub cert_tree : Cert → CertTree
-cert_tree c = record { part = c.part; number = c.number; terms = map term_tree c.terms }
 
 -- a label or a certificate's number; beyond 32 bits it is read as 2^32 - 1
 abbrev pub label_of : Ratio → ℕ

@@ -59,9 +59,6 @@ abbrev pub bound_trees : Bounds → List (ExprTree × ExprTree)
 bound_trees (LastBound s v e f) = (expression_tree e, expression_tree f) ∷ []
 bound_trees (Bound s v e f bs) = (expression_tree e, expression_tree f) ∷ bound_trees bs
 
-abbrev pub slack_tree : Slack → ExprTree × ExprTree
-slack_tree s = (expr_tree s.low, expr_tree s.high)
-
 -- "slack", then bounds, then ";"
 abbrev pub SpellsBounds : List Terminal → List (ExprTree × ExprTree) → Type 0
 SpellsBounds ts trees = (bs : Bounds) × (ts ≡ terminal.Word word.Slack ∷ bounds_then bs (terminal.Symbol symbol.Semicolon ∷ [])) × (trees ≡ bound_trees bs)

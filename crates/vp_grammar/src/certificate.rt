@@ -4,7 +4,8 @@ ghost use Rattle.std.specs.List.{list_all};
 ghost use Rattle.vp_terms.specs.Tree.{expr_tree};
 ghost use Rattle.vp_terms.specs.declared.package.Part.{Part};
 ghost use Rattle.vp_grammar.specs.Reads.{Reads, ReadsAll};
-ghost use Rattle.vp_grammar.specs.Certificates.{SpellsCert, term_tree, cert_tree, is_no_fraction};
+ghost use Rattle.vp_grammar.specs.Certificates.{SpellsCert, is_no_fraction};
+ghost use Rattle.vp_terms.specs.Packages.{term_tree, cert_tree};
 ghost use Rattle.vp_grammar.specs.CertificateReads.{IsLabel, IsProduct, MaybeOf, IsBracketed, AreSquares, IsStrict, IsSum, IsEquation, IsLater, AreTerms, IsPart, IsHead};
 ghost use Rattle.vp_grammar.specs.declared.terminal.Terminal.{Terminal};
 

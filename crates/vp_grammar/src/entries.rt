@@ -2,7 +2,8 @@
 ghost use Rattle.std.specs.Prelude.{◌≡◌, ◌<◌, ◌≤◌, length, map, List, MatchOption, IfOk};
 ghost use Rattle.vp_terms.specs.Tree.{expr_tree};
 ghost use Rattle.vp_grammar.specs.Reads.{Reads, ReadsAll};
-ghost use Rattle.vp_grammar.specs.Entries.{SpellsNames, SpellsEntries, SpellsBounds, SpellsTimes, mark_then, slack_tree};
+ghost use Rattle.vp_grammar.specs.Entries.{SpellsNames, SpellsEntries, SpellsBounds, SpellsTimes, mark_then};
+ghost use Rattle.vp_terms.specs.Packages.{slack_tree};
 ghost use Rattle.vp_grammar.specs.EntryReads.{Listed, IsName, MaybeNames, IsMarked, IsEntry, IsPair, IsBounded, IsBound};
 ghost use Rattle.vp_grammar.specs.declared.entries.Mark.TheVariants.{Setting};
 ghost use Rattle.vp_grammar.specs.declared.terminal.Span.{Span};

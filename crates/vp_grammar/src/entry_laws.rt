@@ -13,9 +13,11 @@ ghost use Rattle.vp_grammar.specs.declared.entries.Mark.TheVariants.{Rate, Setti
 ghost use Rattle.vp_grammar.specs.declared.terminal.Span.{Span};
 ghost use Rattle.vp_grammar.specs.declared.terminal.Terminal.{Terminal};
 ghost use Rattle.vp_grammar.specs.declared.terminal.Word.{Word};
-ghost use Rattle.vp_grammar.specs.Entries.{SpellsNames, SpellsEntries, SpellsBounds, SpellsTimes, slack_tree};
+ghost use Rattle.vp_grammar.specs.Entries.{SpellsNames, SpellsEntries, SpellsBounds, SpellsTimes};
+ghost use Rattle.vp_terms.specs.Packages.{slack_tree};
 ghost use Rattle.vp_terms.specs.Certificates.{IsCertificate};
-ghost use Rattle.vp_grammar.specs.Certificates.{CertTree, SpellsCert, cert_tree, is_whole_number};
+ghost use Rattle.vp_grammar.specs.Certificates.{SpellsCert, is_whole_number};
+ghost use Rattle.vp_terms.specs.Packages.{CertTree, cert_tree};
 ghost use Rattle.vp_grammar.specs.Strays.{first_stray};
 ghost use Rattle.vp_grammar.specs.declared.strays.Rule.TheVariants as rule;
 

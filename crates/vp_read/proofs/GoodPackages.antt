@@ -25,9 +25,11 @@ use Rattle.vp_grammar.specs.declared.terminal.Span.{Span}
 use Rattle.vp_grammar.specs.declared.terminal.Word.{Word}
 use Rattle.vp_grammar.specs.declared.terminal.Word.TheVariants as word
 use Rattle.vp_grammar.specs.declared.terminal.Terminal.{Terminal}
-use Rattle.vp_grammar.specs.Certificates.{SpellsCert, cert_tree}
+use Rattle.vp_grammar.specs.Certificates.{SpellsCert}
+use Rattle.vp_terms.specs.Packages.{cert_tree}
 use Rattle.vp_grammar.specs.Controllers.{SpellsController}
-use Rattle.vp_grammar.specs.Entries.{SpellsNames, SpellsEntries, SpellsBounds, SpellsTimes, slack_tree}
+use Rattle.vp_grammar.specs.Entries.{SpellsNames, SpellsEntries, SpellsBounds, SpellsTimes}
+use Rattle.vp_terms.specs.Packages.{slack_tree}
 use Rattle.vp_grammar.specs.FormulaReads.{SpellsFormulaPiece}
 use Rattle.vp_grammar.specs.Strays.{first_stray}
 use Rattle.vp_read.specs.Naming.{contains, first_again, known}

@@ -15,13 +15,15 @@ use Rattle.vp_grammar.specs.declared.terminal.Word.TheVariants as word
 use Rattle.vp_grammar.specs.declared.terminal.Terminal.{Terminal}
 use Rattle.vp_grammar.specs.declared.entries.Mark.{Mark}
 use Rattle.vp_grammar.specs.declared.entries.Mark.TheVariants as mark
-use Rattle.vp_grammar.specs.Certificates.{CertTree, SpellsCert, cert_tree}
+use Rattle.vp_grammar.specs.Certificates.{SpellsCert}
+use Rattle.vp_terms.specs.Packages.{CertTree, cert_tree}
 use Rattle.vp_grammar.specs.Controllers.{SpellsController}
-use Rattle.vp_grammar.specs.Entries.{SpellsNames, SpellsEntries, SpellsBounds, SpellsTimes, slack_tree}
+use Rattle.vp_grammar.specs.Entries.{SpellsNames, SpellsEntries, SpellsBounds, SpellsTimes}
+use Rattle.vp_terms.specs.Packages.{slack_tree}
 use Rattle.vp_grammar.specs.FormulaReads.{SpellsFormulaPiece}
 use Rattle.vp_read.specs.declared.fault.ReadErr.{ReadErr}
 use Rattle.vp_read.specs.declared.fault.ReadErr.TheVariants as fault
-use Rattle.vp_read.specs.Packages.{PackageTree, package_tree}
+use Rattle.vp_terms.specs.Packages.{PackageTree, package_tree}
 use Rattle.vp_read.specs.Pieces.{cut, first_deep, piece}
 use Rattle.vp_read.specs.Reading.{IsCut, IsDraft, IsPackage, IsUnformed, Refuses, name_again, stray_of, variable_count, wrong_entries}
 use Rattle.vp_read.specs.Sections.{AreCerts, Declares, Describes, HasForm, IsFirstNoCert, IsFirstUnformed, IsUnformedBody, IsUnformedHead, Section, body_sections, head_sections, known_pieces, spelled}

@@ -16,7 +16,8 @@ use Rattle.vp_terms.specs.Ratios.{IsNumber}
 use Rattle.vp_lex.specs.declared.token.Token.{Token}
 use Rattle.vp_grammar.specs.declared.terminal.Terminal.{Terminal}
 use Rattle.vp_grammar.specs.declared.terminal.Terminal.TheVariants as terminal
-use Rattle.vp_grammar.specs.Certificates.{CertTree, SpellsCert, cert_tree, is_whole_number}
+use Rattle.vp_grammar.specs.Certificates.{SpellsCert, is_whole_number}
+use Rattle.vp_terms.specs.Packages.{CertTree, cert_tree}
 use Rattle.vp_read.specs.declared.fault.ReadErr.{ReadErr}
 use Rattle.vp_read.specs.Naming.{known}
 use Rattle.vp_read.specs.Pieces.{cut}

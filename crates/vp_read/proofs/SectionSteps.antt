@@ -10,7 +10,8 @@ use Rattle.vp_grammar.specs.declared.terminal.Terminal.{Terminal}
 use Rattle.vp_grammar.specs.declared.terminal.Word.{Word}
 use Rattle.vp_grammar.specs.Reads.{FailsAll}
 use Rattle.vp_grammar.specs.Entries.{SpellsNames}
-use Rattle.vp_grammar.specs.Certificates.{CertTree, SpellsCert, cert_tree}
+use Rattle.vp_grammar.specs.Certificates.{SpellsCert}
+use Rattle.vp_terms.specs.Packages.{CertTree, cert_tree}
 use Rattle.vp_read.specs.declared.fault.ReadErr.{ReadErr}
 use Rattle.vp_read.specs.declared.fault.ReadErr.TheVariants as fault
 use Rattle.vp_read.specs.Pieces.{items}

@@ -1,7 +1,6 @@
 pub mod Faults
 pub mod Naming
 pub mod Numbers
-pub mod Packages
 pub mod Parts
 pub mod Pieces
 pub mod Reading

@@ -13,8 +13,10 @@ use Rattle.vp_grammar.specs.declared.entries.Mark.TheVariants as mark
 use Rattle.vp_grammar.specs.Heading.{SpellsHeading}
 use Rattle.vp_grammar.specs.FormulaReads.{SpellsFormulaPiece}
 use Rattle.vp_grammar.specs.Controllers.{SpellsController}
-use Rattle.vp_grammar.specs.Entries.{SpellsNames, SpellsEntries, SpellsBounds, SpellsTimes, slack_tree}
-use Rattle.vp_grammar.specs.Certificates.{SpellsCert, CertTree, cert_tree}
+use Rattle.vp_grammar.specs.Entries.{SpellsNames, SpellsEntries, SpellsBounds, SpellsTimes}
+use Rattle.vp_terms.specs.Packages.{slack_tree}
+use Rattle.vp_grammar.specs.Certificates.{SpellsCert}
+use Rattle.vp_terms.specs.Packages.{CertTree, cert_tree}
 use Rattle.std.specs.declared.vec.Vec.{Vec}
 use Rattle.std.specs.declared.alloc.Global.{Global}
 use Rattle.vp_grammar.specs.declared.fault.ParseErr.{ParseErr}

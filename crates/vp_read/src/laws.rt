@@ -9,12 +9,13 @@ ghost use Rattle.vp_terms.specs.declared.package.Cert.{Cert};
 ghost use Rattle.vp_terms.specs.declared.package.Names.{Names};
 ghost use Rattle.vp_terms.specs.declared.package.Package.{Package};
 ghost use Rattle.vp_lex.specs.declared.token.Token.{Token};
-ghost use Rattle.vp_grammar.specs.Certificates.{SpellsCert, cert_tree};
+ghost use Rattle.vp_grammar.specs.Certificates.{SpellsCert};
+ghost use Rattle.vp_terms.specs.Packages.{cert_tree};
 ghost use Rattle.vp_grammar.specs.FormulaReads.{SpellsFormula};
 ghost use Rattle.vp_grammar.specs.Reads.{Spells};
 ghost use Rattle.vp_read.specs.declared.fault.ReadErr.{ReadErr};
 ghost use Rattle.vp_read.specs.declared.fault.ReadErr.TheVariants.{Memory};
-ghost use Rattle.vp_read.specs.Packages.{package_tree};
+ghost use Rattle.vp_terms.specs.Packages.{package_tree};
 ghost use Rattle.vp_read.specs.Reading.{IsPackage, IsPart, IsReadOnce, Refuses};
 
 use vp_grammar::controller_laws::{good_controllers, one_controller};

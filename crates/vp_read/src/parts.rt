@@ -6,7 +6,8 @@ ghost use Rattle.vp_terms.specs.WellFormed.{comparisons, in_certificate, is_good
 ghost use Rattle.vp_terms.specs.Tree.{expr_tree, formula_tree};
 ghost use Rattle.vp_grammar.specs.Reads.{Spells};
 ghost use Rattle.vp_grammar.specs.FormulaReads.{SpellsFormula};
-ghost use Rattle.vp_grammar.specs.Certificates.{SpellsCert, cert_tree};
+ghost use Rattle.vp_grammar.specs.Certificates.{SpellsCert};
+ghost use Rattle.vp_terms.specs.Packages.{cert_tree};
 ghost use Rattle.vp_read.specs.Naming.{StandsIn};
 ghost use Rattle.vp_read.specs.Reading.{AreConsecutive, ReadsPart};
 ghost use Rattle.vp_read.specs.Parts.{GivesKnown, GivesPart};

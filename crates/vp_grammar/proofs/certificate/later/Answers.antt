@@ -1,4 +1,4 @@
-use Rattle.vp_grammar.specs.Certificates.{term_tree}
+use Rattle.vp_terms.specs.Packages.{term_tree}
 use Rattle.vp_grammar.proofs.CertificateSteps.{reads_sum, reads_equation}
 use Rattle.vp_grammar.proofs.certificate.later.Goals as goal
 

@@ -1,6 +1,6 @@
 use Rattle.std.proofs.Common.{map}
 use Rattle.std.proofs.lemmas.Result.{err_from_is_err_and}
-use Rattle.vp_grammar.specs.Certificates.{term_tree}
+use Rattle.vp_terms.specs.Packages.{term_tree}
 use Rattle.vp_grammar.proofs.Lists.{pushed}
 use Rattle.vp_grammar.proofs.CertificateSteps.{terms_fail_first, terms_begin, terms_end, terms_fail_next, term_more}
 use Rattle.vp_grammar.proofs.certificate.terms.Goals as goal

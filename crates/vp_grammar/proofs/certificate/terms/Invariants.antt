@@ -1,5 +1,5 @@
 use Rattle.std.proofs.Common.{length, map}
-use Rattle.vp_grammar.specs.Certificates.{term_tree}
+use Rattle.vp_terms.specs.Packages.{term_tree}
 use Rattle.vp_grammar.proofs.CertificateSteps.{TermsSoFar}
 use Rattle.vp_grammar.proofs.certificate.terms.Given as goal
 

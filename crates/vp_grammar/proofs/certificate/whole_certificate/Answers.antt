@@ -1,7 +1,8 @@
 use Rattle.std.proofs.Common.{◌≡◌, [], ◌∷◌, map, true, IsTrue, rules}
 use Rattle.std.specs.List.{list_all}
 use Rattle.std.proofs.lemmas.Result.{err_from_is_err_and}
-use Rattle.vp_grammar.specs.Certificates.{term_tree, is_no_fraction}
+use Rattle.vp_grammar.specs.Certificates.{is_no_fraction}
+use Rattle.vp_terms.specs.Packages.{term_tree}
 use Rattle.vp_grammar.proofs.EntrySteps.{semicolon}
 use Rattle.vp_grammar.proofs.CertificateForms.{no_head, cert_fails, cert_read, not_ended}
 use Rattle.vp_grammar.proofs.certificate.whole_certificate.Goals as goal

@@ -1,6 +1,6 @@
 use Rattle.std.proofs.Common.{map}
 use Rattle.std.proofs.lemmas.Result.{err_from_is_err_and}
-use Rattle.vp_grammar.specs.Entries.{slack_tree}
+use Rattle.vp_terms.specs.Packages.{slack_tree}
 use Rattle.vp_grammar.specs.EntryReads.{IsBound}
 use Rattle.vp_grammar.proofs.Lists.{first_fails, begins, next_fails, one_more, list_ended, no_end, pushed}
 use Rattle.vp_grammar.proofs.EntrySteps.{comma, comma_other, bound_once}

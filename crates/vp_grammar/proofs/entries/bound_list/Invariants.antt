@@ -1,5 +1,5 @@
 use Rattle.std.proofs.Common.{length, map}
-use Rattle.vp_grammar.specs.Entries.{slack_tree}
+use Rattle.vp_terms.specs.Packages.{slack_tree}
 use Rattle.vp_grammar.specs.EntryReads.{IsBound}
 use Rattle.vp_grammar.proofs.Lists.{ListedSoFar}
 use Rattle.vp_grammar.proofs.EntrySteps.{comma}

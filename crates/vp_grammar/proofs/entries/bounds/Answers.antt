@@ -1,7 +1,8 @@
 use Rattle.std.proofs.Common.{◌≡◌, ◌≢◌, length, [], map, rules}
 use Rattle.std.proofs.lemmas.Result.{err_from_is_err_and}
 use Rattle.vp_grammar.specs.declared.terminal.Word.TheVariants as word
-use Rattle.vp_grammar.specs.Entries.{SpellsBounds, slack_tree}
+use Rattle.vp_grammar.specs.Entries.{SpellsBounds}
+use Rattle.vp_terms.specs.Packages.{slack_tree}
 use Rattle.vp_grammar.specs.EntryReads.{Listed, IsBound}
 use Rattle.vp_grammar.proofs.Lists.{Piece, piece_fails, piece_goes, fails_alike, read_whole, goes_behind}
 use Rattle.vp_grammar.proofs.EntrySteps.{comma, bound_list_once, bounds_piece, piece_bounds}

@@ -2,7 +2,8 @@ use Rattle.vp_terms.specs.declared.package.Cert.{Cert}
 use Rattle.std.proofs.Common.{IsTrue}
 use Rattle.vp_terms.specs.Certificates.{IsCertificate}
 use Rattle.vp_terms.specs.WellFormed.{is_good_cert, places_of}
-use Rattle.vp_grammar.specs.Certificates.{SpellsCert, cert_tree}
+use Rattle.vp_grammar.specs.Certificates.{SpellsCert}
+use Rattle.vp_terms.specs.Packages.{cert_tree}
 use Rattle.vp_read.proofs.Parting.{part_reads}
 use Rattle.vp_read.proofs.PartLaws.{read_good}
 use Rattle.vp_read.proofs.parts.read_cert.Goals as goal

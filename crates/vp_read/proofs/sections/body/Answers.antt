@@ -7,8 +7,9 @@ use Rattle.vp_grammar.specs.declared.terminal.Word.TheVariants as word
 use Rattle.vp_grammar.specs.declared.entries.Mark.TheVariants as mark
 use Rattle.vp_grammar.specs.FormulaReads.{SpellsFormulaPiece}
 use Rattle.vp_grammar.specs.Controllers.{SpellsController}
-use Rattle.vp_grammar.specs.Entries.{SpellsEntries, SpellsBounds, SpellsTimes, slack_tree}
-use Rattle.vp_grammar.specs.Certificates.{cert_tree}
+use Rattle.vp_grammar.specs.Entries.{SpellsEntries, SpellsBounds, SpellsTimes}
+use Rattle.vp_terms.specs.Packages.{slack_tree}
+use Rattle.vp_terms.specs.Packages.{cert_tree}
 use Rattle.vp_read.specs.Pieces.{items, piece}
 use Rattle.vp_read.specs.Sections.{AreCerts, IsFirstNoCert, IsUnformedBody}
 use Rattle.vp_read.proofs.SectionSteps.{tells, tells_more, behind_is}

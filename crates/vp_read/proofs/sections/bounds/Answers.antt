@@ -1,6 +1,7 @@
 use Rattle.std.proofs.Common.{Vec, Global, ◌≡◌, ◌≤◌, length, map, ap, subst, arith}
 use Rattle.vp_terms.specs.declared.package.Slack.{Slack}
-use Rattle.vp_grammar.specs.Entries.{SpellsBounds, slack_tree}
+use Rattle.vp_grammar.specs.Entries.{SpellsBounds}
+use Rattle.vp_terms.specs.Packages.{slack_tree}
 use Rattle.vp_grammar.specs.Reads.{FailsAll}
 use Rattle.vp_read.specs.Pieces.{items, piece}
 use Rattle.vp_read.proofs.PieceLists.{short_piece}

@@ -1,6 +1,7 @@
 use Rattle.std.proofs.Common.{◌+◌, sym, subst}
 use Rattle.vp_grammar.specs.Reads.{FailsAll}
-use Rattle.vp_grammar.specs.Certificates.{SpellsCert, cert_tree}
+use Rattle.vp_grammar.specs.Certificates.{SpellsCert}
+use Rattle.vp_terms.specs.Packages.{cert_tree}
 use Rattle.vp_read.proofs.SectionSteps.{CertsSoFar, cert_on, cert_none}
 use Rattle.vp_read.proofs.sections.certificates.Goals as goal
 
