@@ -137,14 +137,13 @@ image_halts files name bytes h s k =
 
 -- what refuses an image is due for every input
 pub image_due : (files : Option (List NamedFile)) (name : List ℕ) (o : Outcome) → OfStored files (ImageRefused name) o → OfStored files (λ fs o. (input : List ℕ) → IsDue fs input (Some (Exec name)) o) o
-image_due files name o h =
-    (
-      h.0,
-      h.1,
-      λ input.
+image_due files name o h = (
+  h.0,
+  h.1,
+  λ input.
       let P : Code → Outcome → Type 0 = λ code o. o ≡ run_outcome (run (machine_of code) input) in
       file_wider (file_named name h.0) image_limit (bad_image (codes "size")) o (λ bytes o. OfCode (λ code o. ⊥) (image_read bytes) o) (λ bytes o. OfCode P (image_read bytes) o) (λ bytes k. code_wider (image_read bytes) P o k) h.2,
-    )
+)
 
 image_status : (read : Result (Code × List ℕ) ImageErr) (o : Outcome) → OfCode (λ code o. ⊥) read o → o.status ≢ Done
 image_status (Err why) o h = λ e. let s : o.status ≡ BadImage = ap (λ (x : Outcome). x.status) h in cc
@@ -168,14 +167,13 @@ text_wider text P o (inr h) = absurd h.2
 
 -- what refuses a package is due for every input
 pub package_due : (files : Option (List NamedFile)) (name : List ℕ) (o : Outcome) → OfStored files (PackageRefused name) o → OfStored files (λ fs o. (input : List ℕ) → IsDue fs input (Some (Check name)) o) o
-package_due files name o h =
-    (
-      h.0,
-      h.1,
-      λ input.
+package_due files name o h = (
+  h.0,
+  h.1,
+  λ input.
       let P : Package → Outcome → Type 0 = λ pkg o. o ≡ refused (codes "unbuilt") in
       file_wider (file_named name h.0) package_limit (refused (codes "length")) o (OfText Declared (λ pkg o. ⊥)) (OfText Declared P) (λ text k. text_wider text P o k) h.2,
-    )
+)
 
 -- a package is refused, since nothing is built from one
 pub check_due : (files : Option (List NamedFile)) (name text : List ℕ) (pkg : Package) (o : Outcome) → IsStored files name package_limit text → Passes Declared text pkg → o ≡ refused (codes "unbuilt")

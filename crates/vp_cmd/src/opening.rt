@@ -138,11 +138,7 @@ fn check<St: Store>(alloc: Global, name: &str, store: &mut St) -> Result<Task, H
         (St.failed store.old) (St.failed store.new) }
 {
     let _package = open_package(alloc, name, store)?;
-    Ok(Task::Print(line(
-        alloc,
-        Status::Refused,
-        "refused unbuilt\n",
-    )?))
+    Ok(Task::Print(line(alloc, Status::Refused, "refused unbuilt\n")?))
 }
 
 /// Runs an image over the input.
@@ -157,11 +153,7 @@ fn exec<St: Store>(alloc: Global, name: &str, store: &mut St) -> Result<Task, Ha
 }
 
 /// Opens the files of the command that the words are.
-pub(crate) fn open<St: Store>(
-    alloc: Global,
-    words: &[String],
-    store: &mut St,
-) -> Result<Task, Halt>
+pub(crate) fn open<St: Store>(alloc: Global, words: &[String], store: &mut St) -> Result<Task, Halt>
     ensures task { IfOk result (IsTask (St.files store.old) (chosen (texts words.now))) }
     ensures halted { IfErr result (Halts (OfStored (St.files store.old)
         (λ fs o. (input : List ℕ) → IsDue fs input (chosen (texts words.now)) o))) }

@@ -213,8 +213,7 @@ pub run_ends : (end : RunEnd) (code : Code) (s t : SessionState) (left_before le
     → Steps (Some end) code h.bytes t left_mid left_now mid now → EndsOf (machine_of code) end left_before before now
 run_ends end code s t left_before left_mid left_now before mid now h le k =
     let step = step_ends end code h.bytes t left_mid left_now mid now k in
-    let P : Run → Type 0 = λ r. Ends end r before now in
-    (
+    let P : Run → Type 0 = λ r. Ends end r before now in (
       h.bytes ++ step.0,
       told_more left_before left_mid h.bytes step.0 h.consumed step.1,
       subst P (rest_behind code h.bytes step.0 le) (ends_behind end (rest_run code h.bytes step.0) (text_of (so_far (machine_of code) h.bytes)) before mid now h.printed step.2),
