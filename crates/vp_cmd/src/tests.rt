@@ -340,8 +340,12 @@ fn damaged_images_are_named(rt: HostRuntime) -> Result<(), Fail> {
 fn other_words_are_usage(rt: HostRuntime) -> Result<(), Fail> {
     let alloc = rt.alloc();
     let echo = bytes_of(alloc, ECHO)?;
-    let rows: [&[&str]; 8] = [
+    let rows: [&[&str]; 12] = [
         &[],
+        &["compile", "image"],
+        &["log", "image", "image"],
+        &["selftest", "7", "0"],
+        &["selftest", "+7", "100001"],
         &["exec"],
         &["exec", "a", "b"],
         &["check"],
