@@ -1,5 +1,5 @@
 -- What is due once a file was loaded, or could not be.
-use Rattle.std.proofs.Common.{◌≡◌, ◌≢◌, ◌⊎◌, inl, inr, ℕ, suc, ◌<◌, ◌≤◌, nat_lt, Bool, true, false, List, [], ◌∷◌, length, Option, None, Some, Result, Ok, Err, refl, sym, ap, subst, ◌∙◌, arith}
+use Rattle.std.proofs.Common.{◌≡◌, ◌≢◌, inl, inr, ℕ, suc, ◌<◌, ◌≤◌, nat_lt, Bool, true, false, List, [], ◌∷◌, length, Option, None, Some, Result, Ok, Err, refl, sym, ap, subst, ◌∙◌, arith}
 use Rattle.std.specs.Prelude.{IfErr, IsSomeAnd, IfSome, replicate, bytes_eq, codes}
 use Rattle.std.specs.Bool.{MatchBool}
 use Rattle.std.proofs.lemmas.Bool.{lt-ltb, le-ltb}
@@ -10,21 +10,18 @@ use Rattle.vp_isa.specs.declared.code.Code.{Code}
 use Rattle.vp_image.specs.declared.image.ImageErr.{ImageErr}
 use Rattle.vp_image.specs.declared.image.ImageErr.TheVariants as image
 use Rattle.vp_image.specs.Image.{Gives, image_read}
-use Rattle.vp_outside.specs.Content.{Tells}
 use Rattle.vp_outside.specs.Loading.{NamedFile, file_named, Loads}
 use Rattle.vp_outside.specs.declared.store.Loaded.TheVariants.{Whole, TooLong}
 use Rattle.vp_read.specs.Stages.{Declared, Passes}
 use Rattle.vp_stream.specs.Run.{run}
 use Rattle.vp_terms.specs.declared.package.Package.{Package}
-use Rattle.vp_outside.specs.Causes.{Rose}
-use Rattle.vp_cmd.specs.declared.status.Status.{Status}
 use Rattle.vp_cmd.specs.declared.status.Status.TheVariants.{Done, Refused, BadImage}
 use Rattle.vp_cmd.specs.declared.opening.Halt.{Halt}
 use Rattle.vp_cmd.specs.declared.opening.Halt.TheVariants as halt
 use Rattle.vp_cmd.specs.Clauses.{RunsBy}
 use Rattle.vp_cmd.specs.Commands.{Check, Exec}
 use Rattle.vp_cmd.specs.Dues.{IsDue, OfCode, OfFile, OfText, image_limit, package_limit}
-use Rattle.vp_cmd.specs.Outcomes.{Outcome, bad_image, image_text, read_text, refused, run_outcome}
+use Rattle.vp_cmd.specs.Outcomes.{Outcome, bad_image, image_text, refused, run_outcome}
 use Rattle.vp_cmd.specs.Steps.{Halts, ImageRefused, IsStored, IsTooLong, LoadCause, OfStored, PackageRefused}
 
 -- ---- files

@@ -15,7 +15,7 @@ use Rattle.vp_stream.specs.Run.{run}
 use Rattle.vp_terms.specs.declared.package.Package.{Package}
 use Rattle.vp_cmd.specs.Commands.{Command, Check, Compile, Exec, Run, Listing, Log, SelfTest, Demo, built}
 use Rattle.vp_cmd.specs.Dues.{IsDue, OfCode, OfText, image_limit, package_limit}
-use Rattle.vp_cmd.specs.Outcomes.{Outcome, bad_image, image_text, read_text, refused, run_outcome}
+use Rattle.vp_cmd.specs.Outcomes.{Outcome, bad_image, read_text, refused, run_outcome}
 
 -- a text has one refusal, and none where it is a package
 abbrev pub HasOneRefusal : Type 0

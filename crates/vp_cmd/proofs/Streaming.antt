@@ -1,5 +1,5 @@
 -- What was printed is what is due.
-use Rattle.std.proofs.Common.{◌≡◌, ◌≢◌, inl, inr, ℕ, List, [], Option, None, Some, Result, Ok, refl, sym, ap, subst, ◌∙◌}
+use Rattle.std.proofs.Common.{◌≡◌, ◌≢◌, inl, inr, ℕ, List, [], Option, None, Some, Result, refl, sym, ap, subst}
 use Rattle.std.specs.Prelude.{codes}
 use Rattle.vp_isa.specs.Answering.{machine_of}
 use Rattle.vp_isa.specs.declared.code.Code.{Code}

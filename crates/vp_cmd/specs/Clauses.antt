@@ -1,17 +1,19 @@
 -- The clauses of the top call, over the command that its words are.
-use Rattle.std.specs.Prelude.{◌≡◌, ◌≢◌, ℕ, ◌⊎◌, ◌≤◌, List, length, Option, Some, Ok}
-use Rattle.std.specs.Io.KnownBytes.{Appends, Consumes, Keeps}
+use Rattle.std.specs.Prelude.{◌≡◌, ◌≢◌, ℕ, ◌⊎◌, ◌≤◌, List, length, Option, Some, Ok, IsSomeAnd}
+use Rattle.std.specs.Io.KnownBytes.{Appends, Keeps}
 use Rattle.vp_isa.specs.Answering.{machine_of}
 use Rattle.vp_isa.specs.declared.code.Code.{Code}
 use Rattle.vp_image.specs.Image.{image_read}
 use Rattle.vp_outside.specs.Causes.{Rose}
 use Rattle.vp_outside.specs.Content.{AppendsPart, Tells}
 use Rattle.vp_outside.specs.Loading.{NamedFile, file_named}
+use Rattle.vp_read.specs.Stages.{Declared, Passes}
 use Rattle.vp_runner.specs.Ends.{PrintsInTime, PrintsTaken}
+use Rattle.vp_terms.specs.declared.package.Package.{Package}
 use Rattle.vp_cmd.specs.declared.status.Status.{Status}
 use Rattle.vp_cmd.specs.declared.status.Status.TheVariants.{Usage, Refused, BadImage, ReadFault, WriteFault, StoreFault, WantOfMemory}
-use Rattle.vp_cmd.specs.Commands.{Command, Exec, first_file}
-use Rattle.vp_cmd.specs.Dues.{image_limit}
+use Rattle.vp_cmd.specs.Commands.{Command, Exec, first_file, second_file}
+use Rattle.vp_cmd.specs.Dues.{image_limit, package_limit}
 use Rattle.vp_cmd.specs.Outcomes.{Outcome}
 
 -- ---- the outcome
@@ -37,9 +39,17 @@ pub record IsCaused (fault result : Status) (before now : ℕ) : Type 0 where
   pub failed : result ≡ fault → Rose before now
   pub kept : result ≢ fault → now ≡ before
 
--- the name is that of the file that the command loads first. No command that is built loads a second
-abbrev pub IsOwnName : Option Command → List ℕ → Type 0
-IsOwnName command name = first_file command ≡ Some name
+-- the file that the command loads first is there, and nothing refuses it
+abbrev pub IsFirstTaken : Option (List NamedFile) → Option Command → Type 0
+IsFirstTaken files command =
+    (fs : List NamedFile) × Tells files fs × IsSomeAnd (first_file command) (λ first. IsSomeAnd (file_named first fs) (λ text.
+    (length text ≤ package_limit) × ((pkg : Package) × Passes Declared text pkg)))
+
+-- the name is that of the file that the command loads first, or of the one that it loads next, where the
+-- first was taken
+abbrev pub IsOwnName : Option (List NamedFile) → Option Command → List ℕ → Type 0
+IsOwnName files command name =
+    (first_file command ≡ Some name) ⊎ ((second_file command ≡ Some name) × IsFirstTaken files command)
 
 -- no object's count rose
 pub record NoFault (store_before store_now source_before source_now sink_before sink_now : ℕ) : Type 0 where

@@ -1,5 +1,5 @@
 -- What is due for a command: one relation, a line for each command.
-use Rattle.std.specs.Prelude.{◌≡◌, ℕ, ◌⊎◌, nat_lt, List, length, Option, None, Some, Result, Ok, Err, IsSomeAnd, codes}
+use Rattle.std.specs.Prelude.{◌≡◌, ℕ, ◌⊎◌, nat_lt, List, length, Option, Some, Result, Ok, Err, IsSomeAnd, codes}
 use Rattle.std.specs.Bool.{MatchBool}
 use Rattle.vp_isa.specs.Answering.{machine_of}
 use Rattle.vp_isa.specs.declared.code.Code.{Code}

@@ -1,6 +1,6 @@
 -- What private calls say to one another: files that were loaded, why a command halts, what was printed.
-use Rattle.std.specs.Prelude.{◌≡◌, ◌≢◌, ℕ, ◌<◌, ◌≤◌, List, [], length, Option, None, Some, Result, Ok, Err, false}
-use Rattle.std.specs.Io.KnownBytes.{Appends, Keeps}
+use Rattle.std.specs.Prelude.{◌≡◌, ℕ, ◌<◌, ◌≤◌, List, [], length, Option, None, Some, Result, Err, false}
+use Rattle.std.specs.Io.KnownBytes.{Appends}
 use Rattle.vp_isa.specs.Answering.{machine_of}
 use Rattle.vp_isa.specs.declared.code.Code.{Code}
 use Rattle.vp_outside.specs.Causes.{Rose}

@@ -91,7 +91,7 @@ pub fn vphy<St: Store, So: Source, Si: Sink>(
     ensures write_cause { IsCaused Status.WriteFault result (Si.faults out.old) (Si.faults out.new) }
 
     // What a fault leaves, and which objects it can be of.
-    ensures store_name { result ≡ Status.StoreFault → IsOwnName (chosen (texts words.now)) (St.failed store.new) }
+    ensures store_name { result ≡ Status.StoreFault → IsOwnName (St.files store.old) (chosen (texts words.now)) (St.failed store.new) }
     ensures kept_name { result ≢ Status.StoreFault → St.failed store.new ≡ St.failed store.old }
     ensures read_text { result ≡ Status.ReadFault → LeavesTaken (St.files store.old) (chosen (texts words.now))
         (So.left input.old) (So.left input.new) (Si.written out.old) (Si.written out.new) }

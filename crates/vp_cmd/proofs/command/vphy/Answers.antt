@@ -1,4 +1,4 @@
-use Rattle.std.proofs.Common.{◌≡◌, Option, sym, subst, refl}
+use Rattle.std.proofs.Common.{Option, sym, subst, refl}
 use Rattle.vp_cmd.specs.Commands.{Command, chosen, texts}
 use Rattle.vp_cmd.specs.Dues.{IsOwed}
 use Rattle.vp_cmd.specs.Outcomes.{usage}

@@ -1,6 +1,3 @@
-use Rattle.std.specs.Option.{option_map}
-use Rattle.vp_cmd.specs.Commands.{command_of, from_to, number_within, rounds_of, seed_of, self_test, texts, three_words, two_words}
-use Rattle.vp_cmd.specs.Shown.{shown}
 use Rattle.std.proofs.Common.{◌∙◌, arith}
 use Rattle.vp_cmd.proofs.Numbers.{number_read}
 use Rattle.vp_cmd.proofs.words.number_within.Goals as goal
