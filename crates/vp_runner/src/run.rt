@@ -3,6 +3,8 @@ ghost use Rattle.std.specs.Prelude.{[], ◌≡◌, ◌+◌, ◌<◌, ◌≤◌, 
 ghost use Rattle.std.specs.Io.KnownBytes.{IsAtEnd};
 ghost use Rattle.vp_isa.specs.Answering.{machine_of};
 ghost use Rattle.vp_outside.specs.Causes.{Rose};
+ghost use Rattle.vp_outside.specs.Content.{Tells};
+ghost use Rattle.vp_stream.specs.declared.verdict.Verdict.TheVariants as verdict;
 ghost use Rattle.vp_stream.specs.Run.{run};
 ghost use Rattle.vp_runner.specs.Ends.{AreCauses, EndsOf, PrintsInTime, PrintsTaken, Steps, end_fed, end_finished};
 ghost use Rattle.vp_runner.specs.Sessions.{StandsFor};
@@ -79,6 +81,9 @@ pub fn run_stream<So: Source, Si: Sink>(
     requires fresh { StandsFor session.old.code [] session.old }
     // The text is that of the run over what the source had left, and the answer its verdict.
     ensures text { EndsOf (machine_of session.old.code) result (So.left source.old) (Si.written sink.old) (Si.written sink.new) }
+    // It is done where no count rose and the run of what the source had left is done.
+    ensures complete { ¬ Rose (So.faults source.old) (So.faults source.new) → ¬ Rose (Si.faults sink.old) (Si.faults sink.new) →
+        ((bytes : List ℕ) → Tells (So.left source.old) bytes → (run (machine_of session.old.code) bytes).verdict ≡ verdict.Done) → result ≡ RunEnd.Done }
     ensures read_to_end { result ≡ RunEnd.Done → IsAtEnd (So.left source.new) }
     ensures too_much { result ≡ RunEnd.TooMuch → session.new.fed ≡ 2 ^ 62 }
     // A fault is answered only where its object's count rose, and what it leaves.
