@@ -1,5 +1,5 @@
 -- How a run over a source ends.
-use Rattle.std.specs.Prelude.{ℕ, ◌≡◌, ◌<◌, ◌≤◌, ◌-◌, ◌++◌, List, length, drop, take, Option, None, Some, Ok, IfSome}
+use Rattle.std.specs.Prelude.{ℕ, ◌≡◌, ◌<◌, ◌≤◌, ◌-◌, ◌++◌, List, length, drop, take, Option, None, Some, Ok}
 use Rattle.std.specs.Io.KnownBytes.{Appends, Consumes, IsAtEnd, Keeps}
 use Rattle.vp_isa.specs.declared.code.Code.{Code}
 use Rattle.vp_isa.specs.Answering.{machine_of}

@@ -8,7 +8,7 @@ use std::marker::Brand;
 use std::sync::ledger::{Blank, Ledger};
 use vp_stream::{Ending, content, is_skipped, read_record, write_bad_line, write_reply};
 use vp_vm::{Machine, Steps, VmReply};
-use vp_words::{Due, Kind, Record, Reply, Word};
+use vp_words::{Kind, Record, Reply, Word};
 
 /// The most bytes that a line has before its LF.
 pub(crate) const LINE_LIMIT: usize = 4096;
@@ -26,17 +26,6 @@ pub(crate) struct Progress {
 pub(crate) struct Answer {
     pub(crate) len: usize,
     pub(crate) ending: Option<Ending>,
-}
-
-fn due_kind(due: Due) -> Option<Kind>
-    ensures { result ≡ kind_due due }
-{
-    match due {
-        Due::Init => Some(Kind::Init),
-        Due::Choice => Some(Kind::Choice),
-        Due::Sense => Some(Kind::Sense),
-        Due::Ended => None,
-    }
 }
 
 /// How many sensings a record is.
@@ -71,7 +60,7 @@ impl Progress {
         ensures valid { IfSome result (IsRecord self.now.machine.code.counts) }
         ensures room { IfSome result (λ r. r.len ≤ 64) }
     {
-        let kind = due_kind(self.machine.due())?;
+        let kind = self.machine.due().kind()?;
         let mut record = Record {
             kind,
             words: [Word::ZERO; 64],
