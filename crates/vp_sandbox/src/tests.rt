@@ -1,7 +1,7 @@
-ghost use Rattle.std.specs.Prelude.{◌≡◌, ◌<◌, IfOk, IfSome};
-ghost use Rattle.vp_words.specs.Record.{IsRecord, IsValid, kind_due, place_count};
+ghost use Rattle.std.specs.Prelude.{◌≡◌, ◌<◌, IfOk};
+ghost use Rattle.vp_words.specs.Record.{IsRecord, IsValid, place_count};
 ghost use Rattle.vp_poly.specs.Places.{places_for};
-ghost use Rattle.vp_sandbox.specs.Fits.{Fits, IsDue};
+ghost use Rattle.vp_sandbox.specs.Fits.{Fits};
 
 use crate::{Sandbox, Sizes, answer, sizes};
 use std::alloc::Global;
@@ -10,7 +10,7 @@ use std::test::Fail;
 use vp_logic::{Norm, Norms, normal};
 use vp_poly::{Mono, Poly, Term, of_expr, plain};
 use vp_terms::{Cmp, Expr, Formula, Items, Places, Ratio, Var};
-use vp_words::{Counts, Due, Kind, Record, Reply, Why, Word};
+use vp_words::{Counts, Kind, Record, Reply, Why, Word, fields};
 
 // A parameter H, a state x and a control f.
 const TANK: Counts = Counts {
@@ -257,20 +257,6 @@ fn fitting(rt: HostRuntime) -> Result<(), Fail> {
     Ok(())
 }
 
-fn kind_due(due: Due) -> Option<Kind>
-    ensures { IfSome result (λ kind. IsDue due kind) }
-{
-    match due {
-        Due::Init => Some(Kind::Init),
-        Due::Choice => Some(Kind::Choice),
-        Due::Sense => Some(Kind::Sense),
-        Due::Ended => None,
-    }
-}
-
-// A record: its kind and its words.
-type Line = (Kind, &'static [i64]);
-
 fn record(counts: Counts, kind: Kind, values: &[i64]) -> Result<Record, Fail>
     requires { IsValid counts }
     ensures record { IfOk result (IsRecord counts) }
@@ -288,19 +274,25 @@ fn record(counts: Counts, kind: Kind, values: &[i64]) -> Result<Record, Fail>
     Ok(record)
 }
 
-// The reply to the last of these records.
-fn last_reply(s: &Sandbox, lines: &[Line]) -> Result<Reply, Fail>
+// The reply to the last of some records, whose words stand one behind the other.
+fn last_reply(s: &Sandbox, values: &[i64]) -> Result<Reply, Fail>
     requires { Fits s.now }
 {
     let mut state = s.start();
     let mut reply = Reply::Ok;
-    for line in lines {
-        let due = kind_due(state.due).ok_or("nothing is due")?;
-        let record = record(s.counts, due, line.1)?;
-        if due != line.0 {
-            return Err(Fail::new("another record is due"));
+    let mut rest = values;
+    for _ in 0..values.len() {
+        if rest.is_empty() {
+            break;
         }
+        let due = state.due.kind().ok_or("nothing is due")?;
+        let count = usize::from(fields(due, s.counts));
+        if count > rest.len() {
+            return Err(Fail::new("too few words"));
+        }
+        let record = record(s.counts, due, &rest[..count])?;
         answer(s, &mut state, &record, &mut reply);
+        rest = &rest[count..];
     }
     Ok(reply)
 }
@@ -323,22 +315,11 @@ fn init(k: u32, unknown: bool) -> Reply {
     Reply::Violation(Why::Init { k, unknown })
 }
 
-const BEGIN: Line = (Kind::Init, &[1000, 1000, 500, 502, 0]);
-
 // `-inf`
 const UNBOUNDED: i64 = -i64::MAX;
 
-const BELOW: Line = (Kind::Init, &[1000, 1000, UNBOUNDED, 502, 0]);
-
+// The greatest finite word.
 const MOST: i64 = i64::MAX - 1;
-
-const LARGEST: Line = (Kind::Init, &[MOST, MOST, -MOST, 0, 0]);
-
-const FIVE: Line = (Kind::Choice, &[5]);
-
-const SIX: Line = (Kind::Choice, &[6]);
-
-const SENSE: Line = (Kind::Sense, &[10, 10, 551, 553]);
 
 #[test]
 fn replies_of_the_tank(rt: HostRuntime) -> Result<(), Fail> {
@@ -346,37 +327,41 @@ fn replies_of_the_tank(rt: HostRuntime) -> Result<(), Fail> {
     if !s.fits() {
         return Err(Fail::new("the tank doesn't fit"));
     }
-    let near: Line = (Kind::Init, &[1000, 1000, 930, 930, 0]);
-    let around: Line = (Kind::Init, &[1000, 1000, 929, 931, 0]);
-    let rows: [(&[Line], Reply); 16] = [
-        (&[BEGIN], Reply::Ok),
-        (&[BEGIN, FIVE], act(5, false)),
-        (&[BEGIN, FIVE, SENSE], Reply::Ok),
-        (&[BEGIN, FIVE, SENSE, (Kind::Choice, &[60])], act(-3, true)),
-        (&[near], Reply::Ok),
-        (&[near, SIX], act(6, false)),
-        (&[around], Reply::Ok),
-        (&[around, SIX], act(-3, true)),
+    let rows: [(&[i64], Reply); 16] = [
+        (&[1000, 1000, 500, 502, 0], Reply::Ok),
+        (&[1000, 1000, 500, 502, 0, 5], act(5, false)),
+        (&[1000, 1000, 500, 502, 0, 5, 10, 10, 551, 553], Reply::Ok),
         (
-            &[BEGIN, FIVE, (Kind::Sense, &[10, 10, 540, 553])],
+            &[1000, 1000, 500, 502, 0, 5, 10, 10, 551, 553, 60],
+            act(-3, true),
+        ),
+        (&[1000, 1000, 930, 930, 0], Reply::Ok),
+        (&[1000, 1000, 930, 930, 0, 6], act(6, false)),
+        (&[1000, 1000, 929, 931, 0], Reply::Ok),
+        (&[1000, 1000, 929, 931, 0, 6], act(-3, true)),
+        (
+            &[1000, 1000, 500, 502, 0, 5, 10, 10, 540, 553],
             plant(3, true),
         ),
         (
-            &[BEGIN, FIVE, (Kind::Sense, &[10, 10, 600, 601])],
+            &[1000, 1000, 500, 502, 0, 5, 10, 10, 600, 601],
             plant(4, false),
         ),
         (
-            &[BEGIN, FIVE, (Kind::Sense, &[11, 11, 551, 553])],
+            &[1000, 1000, 500, 502, 0, 5, 11, 11, 551, 553],
             plant(2, false),
         ),
-        (&[BELOW], Reply::Ok),
-        (&[BELOW, FIVE], act(5, false)),
-        (&[BELOW, FIVE, SENSE], plant(4, true)),
-        (&[LARGEST], Reply::Ok),
-        (&[(Kind::Init, &[1000, 1000, 999, 1001, 0])], init(1, true)),
+        (&[1000, 1000, UNBOUNDED, 502, 0], Reply::Ok),
+        (&[1000, 1000, UNBOUNDED, 502, 0, 5], act(5, false)),
+        (
+            &[1000, 1000, UNBOUNDED, 502, 0, 5, 10, 10, 551, 553],
+            plant(4, true),
+        ),
+        (&[MOST, MOST, -MOST, 0, 0], Reply::Ok),
+        (&[1000, 1000, 999, 1001, 0], init(1, true)),
     ];
-    for (lines, wanted) in rows {
-        assert_eq!(rt; last_reply(&s, lines)?, wanted);
+    for (values, wanted) in rows {
+        assert_eq!(rt; last_reply(&s, values)?, wanted);
     }
     Ok(())
 }
