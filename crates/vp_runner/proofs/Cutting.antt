@@ -1,7 +1,6 @@
 -- Pieces that are fed one after the other are fed as their join is.
 use Rattle.std.proofs.Common.{◌≡◌, ℕ, List, [], ◌∷◌, ◌++◌, drop, length, Option, None, Some, Result, Ok, Err, refl, ap, sym, subst, ◌∙◌, append_assoc, append-nil}
 use Rattle.std.specs.Io.KnownBytes.{Appends}
-use Rattle.std.proofs.Math.Seq.{drop-length}
 use Rattle.vp_words.specs.Answerer.{Answerer}
 use Rattle.vp_isa.specs.declared.code.Code.{Code}
 use Rattle.vp_isa.specs.Answering.{machine_of}
@@ -10,28 +9,17 @@ use Rattle.vp_outside.specs.Content.{AppendsPart}
 use Rattle.vp_outside.proofs.Known.{appends_more}
 use Rattle.vp_stream.specs.declared.verdict.Ending.{Ending}
 use Rattle.vp_stream.specs.declared.verdict.Ending.TheVariants as ending
-use Rattle.vp_stream.specs.Pieces.{added}
+use Rattle.vp_stream.specs.Pieces.{added, joined}
 use Rattle.vp_stream.specs.Run.{Standing, Walked, so_far, text_of}
 use Rattle.vp_stream.proofs.Growth.{so_far_grows}
-use Rattle.vp_stream.proofs.Pieces.{added_more}
+use Rattle.vp_stream.proofs.Pieces.{added_more, nothing_added}
 use Rattle.vp_runner.specs.declared.ends.End.{End}
 use Rattle.vp_runner.specs.declared.ends.End.TheVariants as end
 use Rattle.vp_runner.specs.declared.ends.Fed.{Fed}
 use Rattle.vp_runner.specs.declared.ends.Fed.TheVariants as fed
-use Rattle.vp_runner.specs.Cutting.{FeedsAll, FollowedBy, joined, pieces_added}
+use Rattle.vp_runner.specs.Cutting.{FeedsAll, FollowedBy}
 use Rattle.vp_runner.specs.Sessions.{Feeds, Finishes, SessionState, StandsFor, closing}
 use Rattle.vp_runner.proofs.Walking.{appends_nothing, part_after, part_of_more}
-
--- no piece adds nothing
-nothing_added : (code : Code) (bytes : List ℕ) → added (machine_of code) bytes [] ≡ []
-nothing_added code bytes =
-    let front = text_of (so_far (machine_of code) bytes) in
-    ap (λ l. drop (length front) (text_of (so_far (machine_of code) l))) (append-nil bytes) ∙ drop-length front
-
-pub pieces_added_is : (code : Code) (pieces : List (List ℕ)) (bytes : List ℕ) → pieces_added code bytes pieces ≡ added (machine_of code) bytes (joined pieces)
-pieces_added_is code [] bytes = sym (nothing_added code bytes)
-pieces_added_is code (piece ∷ pieces) bytes =
-    ap (λ l. added (machine_of code) bytes piece ++ l) (pieces_added_is code pieces (bytes ++ piece)) ∙ sym (added_more (machine_of code) bytes piece (joined pieces))
 
 -- behind a run that has ended nothing is added
 ended_adds : (code : Code) (bytes piece rest : List ℕ) (e : Ending) → (so_far (machine_of code) (bytes ++ piece)).stands ≡ Err e
@@ -110,7 +98,7 @@ feeds_all [] last code bytes s before now h =
     let Q : List ℕ → Type 0 = λ l. StandsFor code l s in
     let R : List ℕ → Type 0 = λ l. Appends before now l in
     let S : Option (List ℕ) → Type 0 = λ told. Appends before told [] in
-    subst P (sym h.0) (subst Q (sym (append-nil bytes)) h.1, subst R (sym (nothing_added code bytes)) (subst S (sym h.2) (appends_nothing before)))
+    subst P (sym h.0) (subst Q (sym (append-nil bytes)) h.1, subst R (sym (nothing_added (machine_of code) bytes)) (subst S (sym h.2) (appends_nothing before)))
 feeds_all (piece ∷ pieces) last code bytes s before now h =
     feeds_first h.0 last code bytes piece pieces s h.1 before h.2 now (feeds_all pieces last code (bytes ++ piece) s h.2 now) h.3 h.4
 

@@ -18,7 +18,8 @@ use Rattle.vp_runner.specs.declared.walk.Halt.{Halt}
 use Rattle.vp_runner.specs.declared.walk.Halt.TheVariants.{Ended, Failed}
 use Rattle.vp_runner.specs.declared.ends.End.TheVariants as end
 use Rattle.vp_runner.specs.Progress.{Closes, Walks}
-use Rattle.vp_runner.specs.Sessions.{Feeds, Finishes, SessionState, StandsFor, closing, end_of, fed_of}
+use Rattle.vp_runner.specs.Sessions.{Feeds, Finishes, SessionState, StandsFor, closing}
+use Rattle.vp_runner.specs.Halts.{end_of, fed_of}
 use Rattle.vp_runner.proofs.Walking.{part_after, part_of_more}
 
 -- a text that the end line may follow

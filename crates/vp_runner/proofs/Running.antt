@@ -23,8 +23,9 @@ use Rattle.vp_runner.specs.declared.ends.Fed.TheVariants as fed
 use Rattle.vp_runner.specs.declared.ends.RunEnd.{RunEnd}
 use Rattle.vp_runner.specs.declared.ends.RunEnd.TheVariants.{Done, Violated, BadLine, ReadFault, WriteFault, TooMuch}
 use Rattle.vp_runner.specs.declared.ends.Cause.{Cause}
-use Rattle.vp_runner.specs.Ends.{AppendsFront, AreCauses, Ends, EndsOf, HasTaken, PrintsInTime, PrintsTaken, Steps, end_fed, end_finished, rest_run}
+use Rattle.vp_runner.specs.Ends.{AppendsFront, AreCauses, Ends, EndsOf, PrintsInTime, PrintsTaken}
 use Rattle.vp_runner.specs.Sessions.{Feeds, Finishes, IsEndedBy, IsFedBy, SessionState, StandsFor, closing}
+use Rattle.vp_runner.specs.Taking.{HasTaken, Takes, end_fed, end_finished, rest_run}
 use Rattle.vp_runner.proofs.Walking.{appends_nothing, part_after, part_of_more}
 
 -- a piece that ended the run
@@ -69,7 +70,7 @@ failed_by code bytes piece text left_before left_now c e =
 
 -- one piece was fed
 pub steps_fed : (answer : Fed) (code : Code) (bytes piece : List ℕ) (s : SessionState) (left_before left_now before now : Option (List ℕ)) → length (bytes ++ piece) ≤ input_limit → 0 < length piece → length piece ≤ 4096
-    → Consumes left_before left_now piece → Feeds answer code bytes piece s before now → Steps (end_fed answer) code bytes s left_before left_now before now
+    → Consumes left_before left_now piece → Feeds answer code bytes piece s before now → Takes (end_fed answer) code bytes s left_before left_now before now
 steps_fed fed.Going code bytes piece s left_before left_now before now le some few c h = (piece, some, le, h.0, c, h.1)
 steps_fed fed.Violated code bytes piece s left_before left_now before now le some few c h =
     ended_by Violated code bytes piece left_before left_now before now (record { text = added (machine_of code) bytes piece; verdict = verdict.Violated }) c (λ rest. rest_ended code bytes piece rest ending.Violated le h.0) (refl, h.1)
@@ -106,7 +107,7 @@ failed_end code bytes left l = ([], l, [], ap (λ (r : Run). r.text) (closing_ru
 
 -- the input ended
 pub steps_finished : (answer : End) (code : Code) (bytes : List ℕ) (s : SessionState) (left_before left_now before now : Option (List ℕ)) → length bytes < input_limit
-    → Consumes left_before left_now [] → IsAtEnd left_now → Finishes answer code bytes before now → Steps (Some (end_finished answer)) code bytes s left_before left_now before now
+    → Consumes left_before left_now [] → IsAtEnd left_now → Finishes answer code bytes before now → Takes (Some (end_finished answer)) code bytes s left_before left_now before now
 steps_finished (end.Done rounds) code bytes s left_before left_now before now lt c e h =
     let end = finished_by Done code bytes left_before before now (record { text = closing code bytes; verdict = (run (machine_of code) bytes).verdict }) (at_end left_before left_now c e) (closing_run code bytes) (verdict_at code bytes (Ok h.0.0) lt h.0.1, h.1) in
     (e, end.0, end.1, end.2)
@@ -154,7 +155,7 @@ taken_none code s left now is = record { bytes = []; stands = is; consumed = con
 
 -- one read more
 pub taken_more : (code : Code) (s t : SessionState) (left_before left_mid left_now before mid now : Option (List ℕ)) (h : HasTaken code s left_before left_mid before mid)
-    → Steps None code h.bytes t left_mid left_now mid now → HasTaken code t left_before left_now before now × (s.fed < t.fed) × (t.fed ≤ input_limit)
+    → Takes None code h.bytes t left_mid left_now mid now → HasTaken code t left_before left_now before now × (s.fed < t.fed) × (t.fed ≤ input_limit)
 taken_more code s t left_before left_mid left_now before mid now h k =
     let a = machine_of code in
     let P : List ℕ → Type 0 = λ l. Appends before now l in (
@@ -173,7 +174,7 @@ some_rest : (left : Option (List ℕ)) → (rest : List ℕ) × Tells left rest
 some_rest None = ([], tt)
 some_rest (Some rest) = (rest, refl)
 
-step_ends : (end : RunEnd) (code : Code) (bytes : List ℕ) (s : SessionState) (left_before left_now before now : Option (List ℕ)) → Steps (Some end) code bytes s left_before left_now before now
+step_ends : (end : RunEnd) (code : Code) (bytes : List ℕ) (s : SessionState) (left_before left_now before now : Option (List ℕ)) → Takes (Some end) code bytes s left_before left_now before now
     → (rest : List ℕ) × Tells left_before rest × Ends end (rest_run code bytes rest) before now
 step_ends Done code bytes s left_before left_now before now h = (h.1, h.2, h.3)
 step_ends Violated code bytes s left_before left_now before now h = h
@@ -210,7 +211,7 @@ told_more (Some left) (Some mid) bytes rest c t = c ∙ ap (λ l. bytes ++ l) t
 
 -- the run ended at a read
 pub run_ends : (end : RunEnd) (code : Code) (s t : SessionState) (left_before left_mid left_now before mid now : Option (List ℕ)) (h : HasTaken code s left_before left_mid before mid) → length h.bytes ≤ input_limit
-    → Steps (Some end) code h.bytes t left_mid left_now mid now → EndsOf (machine_of code) end left_before before now
+    → Takes (Some end) code h.bytes t left_mid left_now mid now → EndsOf (machine_of code) end left_before before now
 run_ends end code s t left_before left_mid left_now before mid now h le k =
     let step = step_ends end code h.bytes t left_mid left_now mid now k in
     let P : Run → Type 0 = λ r. Ends end r before now in (
@@ -242,7 +243,7 @@ appends_kept (Some xs) (Some ys) None text h k = absurd k
 appends_kept (Some xs) (Some ys) (Some zs) text h k = k ∙ h
 
 pub run_unread : (code : Code) (s t : SessionState) (left_before left_mid left_now before mid now : Option (List ℕ)) (h : HasTaken code s left_before left_mid before mid)
-    → Steps (Some ReadFault) code h.bytes t left_mid left_now mid now → PrintsTaken (machine_of code) left_before left_now before now
+    → Takes (Some ReadFault) code h.bytes t left_mid left_now mid now → PrintsTaken (machine_of code) left_before left_now before now
 run_unread code s t left_before left_mid left_now before mid now h k =
     (h.bytes, s.standing, consumes_kept left_before left_mid left_now h.bytes h.consumed k.0, h.stands.standing, appends_kept before mid now _ h.printed k.1)
 
@@ -255,7 +256,7 @@ front_more (Some xs) (Some ys) (Some zs) front more text h k =
     (more ++ take k.0 text, k.2 ∙ ap (λ l. l ++ take k.0 text) h ∙ append_assoc xs (front ++ more) (take k.0 text) ∙ ap (λ l. xs ++ l) (append_assoc front more (take k.0 text)))
 
 pub run_unwritten : (code : Code) (s t : SessionState) (left_before left_mid left_now before mid now : Option (List ℕ)) (h : HasTaken code s left_before left_mid before mid)
-    → Steps (Some WriteFault) code h.bytes t left_mid left_now mid now → PrintsInTime (machine_of code) left_before left_now before now
+    → Takes (Some WriteFault) code h.bytes t left_mid left_now mid now → PrintsInTime (machine_of code) left_before left_now before now
 run_unwritten code s t left_before left_mid left_now before mid now h k =
     let a = machine_of code in
     let taken = h.bytes ++ k.0 in
@@ -271,11 +272,11 @@ run_unwritten code s t left_before left_mid left_now before mid now h k =
       subst P (sym front) (front_more before mid now (text_of (so_far a (take n h.bytes))) grown.0 k.1 (subst Q text h.printed) k.4),
     )
 
-pub run_done : (code : Code) (s t : SessionState) (left_mid left_now mid now : Option (List ℕ)) (bytes : List ℕ) → Steps (Some Done) code bytes t left_mid left_now mid now → IsAtEnd left_now
+pub run_done : (code : Code) (s t : SessionState) (left_mid left_now mid now : Option (List ℕ)) (bytes : List ℕ) → Takes (Some Done) code bytes t left_mid left_now mid now → IsAtEnd left_now
 run_done code s t left_mid left_now mid now bytes k = k.0
 
 -- a read ends no run for its length
-pub step_short : (end : RunEnd) (code : Code) (bytes : List ℕ) (s : SessionState) (left_before left_now before now : Option (List ℕ)) → end ≡ TooMuch → Steps (Some end) code bytes s left_before left_now before now → ⊥
+pub step_short : (end : RunEnd) (code : Code) (bytes : List ℕ) (s : SessionState) (left_before left_now before now : Option (List ℕ)) → end ≡ TooMuch → Takes (Some end) code bytes s left_before left_now before now → ⊥
 step_short TooMuch code bytes s left_before left_now before now e h = h
 step_short Done code bytes s left_before left_now before now e h = absurd cc
 step_short Violated code bytes s left_before left_now before now e h = absurd cc

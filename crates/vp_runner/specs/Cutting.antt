@@ -1,21 +1,9 @@
 -- Cutting: an input in pieces, one after the other.
 use Rattle.std.specs.Prelude.{ℕ, ◌≡◌, ◌++◌, List, [], ◌∷◌, Option}
-use Rattle.std.specs.List.{flat_map}
 use Rattle.vp_isa.specs.declared.code.Code.{Code}
-use Rattle.vp_isa.specs.Answering.{machine_of}
-use Rattle.vp_stream.specs.Pieces.{added}
 use Rattle.vp_runner.specs.declared.ends.Fed.{Fed}
 use Rattle.vp_runner.specs.declared.ends.Fed.TheVariants as fed
 use Rattle.vp_runner.specs.Sessions.{Feeds, SessionState, StandsFor}
-
--- pieces as one
-abbrev pub joined : List (List ℕ) → List ℕ
-joined pieces = flat_map (λ piece. piece) pieces
-
--- what pieces add to the text of the bytes before them, one after the other
-abbrev pub pieces_added : Code → List ℕ → List (List ℕ) → List ℕ
-pieces_added code bytes [] = []
-pieces_added code bytes (piece ∷ pieces) = added (machine_of code) bytes piece ++ pieces_added code (bytes ++ piece) pieces
 
 -- behind a call that goes on the others follow, and any other answer is the last
 abbrev pub FollowedBy : Type 0 → Fed → Fed → Option (List ℕ) → Option (List ℕ) → Type 0

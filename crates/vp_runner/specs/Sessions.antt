@@ -1,5 +1,5 @@
 -- What a session stands for.
-use Rattle.std.specs.Prelude.{ℕ, ◌≡◌, ◌≤◌, ◌+◌, ◌++◌, List, [], ◌∷◌, length, drop, Option, None, Some, Ok, Err}
+use Rattle.std.specs.Prelude.{ℕ, ◌≡◌, ◌+◌, ◌++◌, List, [], ◌∷◌, length, drop, Option, None, Some, Ok, Err}
 use Rattle.std.specs.Io.KnownBytes.{Appends}
 use Rattle.vp_isa.specs.declared.code.Code.{Code}
 use Rattle.vp_isa.specs.Answering.{machine_of}
@@ -8,11 +8,7 @@ use Rattle.vp_outside.specs.Causes.{Rose}
 use Rattle.vp_outside.specs.Content.{AppendsPart}
 use Rattle.vp_stream.specs.declared.verdict.Ending.TheVariants as ending
 use Rattle.vp_stream.specs.Pieces.{added, held_of}
-use Rattle.vp_stream.specs.Run.{Standing, input_limit, run, so_far, text_of}
-use Rattle.vp_runner.specs.declared.walk.Halt.{Halt}
-use Rattle.vp_runner.specs.declared.walk.Halt.TheVariants as halt
-use Rattle.vp_runner.specs.declared.walk.Walk.{Walk}
-use Rattle.vp_runner.specs.Progress.{HasRoom}
+use Rattle.vp_stream.specs.Run.{Standing, run, so_far, text_of}
 use Rattle.vp_runner.specs.declared.ends.Cause.{Cause}
 use Rattle.vp_runner.specs.declared.ends.Cause.TheVariants as cause
 use Rattle.vp_runner.specs.declared.ends.Fed.{Fed}
@@ -37,28 +33,6 @@ pub record StandsFor (code : Code) (bytes : List ℕ) (s : SessionState) : Type 
   pub fed : s.fed ≡ length bytes
   pub held : s.held ≡ held_of bytes
   pub standing : (so_far (machine_of code) bytes).stands ≡ Ok s.standing
-
--- what a session keeps while it goes on
-pub record IsSound (w : Walk) (fed : ℕ) : Type 0 where
-  pub room : HasRoom w 0
-  pub count : w.progress.lines + length w.line.text ≤ fed
-  pub few : fed ≤ input_limit
-
--- why nothing more is answered behind a halt, and what `feed` and `finish` answer then
-abbrev pub cause_of : Halt → Cause
-cause_of (halt.Ended ending.Violated) = cause.Violated
-cause_of (halt.Ended (ending.BadLine n)) = cause.BadLine n
-cause_of halt.Failed = cause.Failed
-
-abbrev pub fed_of : Halt → Fed
-fed_of (halt.Ended ending.Violated) = fed.Violated
-fed_of (halt.Ended (ending.BadLine n)) = fed.BadLine n
-fed_of halt.Failed = fed.Failed
-
-abbrev pub end_of : Halt → End
-end_of (halt.Ended ending.Violated) = end.Violated
-end_of (halt.Ended (ending.BadLine n)) = end.BadLine n
-end_of halt.Failed = end.Failed
 
 -- why nothing more is answered after an answer of `feed`
 abbrev pub cause_fed : Fed → Option Cause

@@ -1,17 +1,12 @@
 //! One line at a time: a machine, and how far its run has come.
-ghost use Rattle.std.specs.Prelude.{◌≡◌, ◌+◌, ◌<◌, ◌≤◌, ◌^◌, IfNone, IfSome, Some, take};
-ghost use Rattle.vp_words.specs.Record.{IsRecord, kind_due};
-ghost use Rattle.vp_isa.specs.Machine.{due_of};
-ghost use Rattle.vp_stream.specs.Run.{due_line, ending_after, line_answer, bad_at, answered, rounds_of};
+ghost use Rattle.std.specs.Prelude.{◌≡◌, ◌+◌, ◌<◌, ◌≤◌, ◌^◌, IfNone, IfSome, length};
+ghost use Rattle.vp_stream.specs.Run.{bad_at, ending_after, line_answer, rounds_of};
 
 use std::marker::Brand;
 use std::sync::ledger::{Blank, Ledger};
 use vp_stream::{Ending, content, is_skipped, read_record, write_bad_line, write_reply};
 use vp_vm::{Machine, Steps, VmReply};
 use vp_words::{Kind, Record, Reply, Word};
-
-/// The most bytes that a line has before its LF.
-pub(crate) const LINE_LIMIT: usize = 4096;
 
 /// A machine, the number of lines so far, and the number of sensings that were answered.
 #[derive(Debug, Drop)]
@@ -50,15 +45,13 @@ fn ending_after(reply: &Reply) -> Option<Ending>
 }
 
 impl Progress {
-    ghost use Rattle.vp_runner.specs.Progress.{Gave, answerer, standing};
+    ghost use Rattle.vp_runner.specs.Progress.{Gave, IsDueNow, answerer, due_gives, record_gives, standing};
 
     /// The record of a line, where it is the due one.
     fn due_record(&self, line: &[u8]) -> Option<Record>
-        ensures none { IfNone result (due_line (answerer self.now) (standing self.now) (kind_due (due_of self.now.machine.code self.now.machine.state)) line.now ≡ bad_at (standing self.now)) }
-        ensures some { IfSome result (λ r. due_line (answerer self.now) (standing self.now) (kind_due (due_of self.now.machine.code self.now.machine.state)) line.now ≡ answered (answerer self.now) (standing self.now) r.kind (take r.len r.words)) }
-        ensures due { IfSome result (λ r. kind_due (due_of self.now.machine.code self.now.machine.state) ≡ Some r.kind) }
-        ensures valid { IfSome result (IsRecord self.now.machine.code.counts) }
-        ensures room { IfSome result (λ r. r.len ≤ 64) }
+        ensures none { IfNone result (due_gives self.now line.now ≡ bad_at (standing self.now)) }
+        ensures some { IfSome result (λ r. due_gives self.now line.now ≡ record_gives self.now r) }
+        ensures due { IfSome result (IsDueNow self.now) }
     {
         let kind = self.machine.due().kind()?;
         let mut record = Record {
@@ -97,10 +90,8 @@ impl Progress {
     ) -> Answer
         requires lines { self.old.lines + 1 < 2 ^ 64 }
         requires rounds { self.old.rounds ≤ self.old.lines }
-        requires due { kind_due (due_of self.old.machine.code self.old.machine.state) ≡ Some found.now.kind }
-        requires valid { IsRecord self.old.machine.code.counts found.now }
-        requires room { found.now.len ≤ 64 }
-        ensures walk { Gave (answered (answerer self.old) (standing self.old) found.now.kind (take found.now.len found.now.words)) out.new result self.new }
+        requires due { IsDueNow self.old found.now }
+        ensures walk { Gave (record_gives self.old found.now) out.new result self.new }
         ensures code { self.new.machine.code ≡ self.old.machine.code }
         ensures lines { self.new.lines ≡ self.old.lines + 1 }
         ensures rounds { self.new.rounds ≤ self.new.lines }
@@ -131,10 +122,8 @@ impl Progress {
         requires some { 0 < blank.parts }
         requires lines { self.old.lines + 1 < 2 ^ 64 }
         requires rounds { self.old.rounds ≤ self.old.lines }
-        requires due { kind_due (due_of self.old.machine.code self.old.machine.state) ≡ Some found.now.kind }
-        requires valid { IsRecord self.old.machine.code.counts found.now }
-        requires room { found.now.len ≤ 64 }
-        ensures walk { Gave (answered (answerer self.old) (standing self.old) found.now.kind (take found.now.len found.now.words)) out.new result self.new }
+        requires due { IsDueNow self.old found.now }
+        ensures walk { Gave (record_gives self.old found.now) out.new result self.new }
         ensures code { self.new.machine.code ≡ self.old.machine.code }
         ensures lines { self.new.lines ≡ self.old.lines + 1 }
         ensures rounds { self.new.rounds ≤ self.new.lines }
@@ -142,8 +131,9 @@ impl Progress {
         self.answer_counted(found, &mut Steps::<L>::new(blank), out)
     }
 
-    /// Answers one whole line: writes what is due for it at the front of `out`.
+    /// Answers one whole line of at most 4,096 bytes: writes what is due for it at the front of `out`.
     pub(crate) fn answer_line(&mut self, line: &[u8], out: &mut [u8; 1024]) -> Answer
+        requires short { length line.now ≤ 4096 }
         requires lines { self.old.lines + 1 < 2 ^ 64 }
         requires rounds { self.old.rounds ≤ self.old.lines }
         ensures walk { Gave (line_answer (answerer self.old) (standing self.old) line.now) out.new result self.new }
@@ -151,9 +141,6 @@ impl Progress {
         ensures lines { self.new.lines ≡ self.old.lines + 1 }
         ensures rounds { self.new.rounds ≤ self.new.lines }
     {
-        if line.len() > LINE_LIMIT {
-            return self.refuse(out);
-        }
         let line = content(line);
         if is_skipped(line) {
             self.lines += 1;

@@ -6,8 +6,9 @@ ghost use Rattle.vp_outside.specs.Causes.{Rose};
 ghost use Rattle.vp_outside.specs.Content.{Tells};
 ghost use Rattle.vp_stream.specs.declared.verdict.Verdict.TheVariants as verdict;
 ghost use Rattle.vp_stream.specs.Run.{run};
-ghost use Rattle.vp_runner.specs.Ends.{AreCauses, EndsOf, PrintsInTime, PrintsTaken, Steps, end_fed, end_finished};
+ghost use Rattle.vp_runner.specs.Ends.{AreCauses, EndsOf, PrintsInTime, PrintsTaken};
 ghost use Rattle.vp_runner.specs.Sessions.{StandsFor};
+ghost use Rattle.vp_runner.specs.Taking.{Takes, end_fed, end_finished};
 
 use crate::ends::{End, Fed, RunEnd};
 use crate::session::Session;
@@ -59,7 +60,8 @@ fn step<So: Source, Si: Sink>(
 ) -> Option<RunEnd>
     requires few { session.old.fed < 2 ^ 62 }
     requires going { session.old.cause ≡ None }
-    ensures text { (bytes : List ℕ) → StandsFor session.old.code bytes session.old → Steps result session.old.code bytes session.new (So.left source.old) (So.left source.new) (Si.written sink.old) (Si.written sink.new) }
+    ensures text { (bytes : List ℕ) → StandsFor session.old.code bytes session.old →
+        Takes result session.old.code bytes session.new (So.left source.old) (So.left source.new) (Si.written sink.old) (Si.written sink.new) }
     ensures causes { AreCauses result (So.faults source.old) (So.faults source.new) (Si.faults sink.old) (Si.faults sink.new) }
     ensures code { session.new.code ≡ session.old.code }
 {
@@ -86,10 +88,12 @@ pub fn run_stream<So: Source, Si: Sink>(
         ((bytes : List ℕ) → Tells (So.left source.old) bytes → (run (machine_of session.old.code) bytes).verdict ≡ verdict.Done) → result ≡ RunEnd.Done }
     ensures read_to_end { result ≡ RunEnd.Done → IsAtEnd (So.left source.new) }
     ensures too_much { result ≡ RunEnd.TooMuch → session.new.fed ≡ 2 ^ 62 }
-    // A fault is answered only where its object's count rose, and what it leaves.
+    // A fault is answered only where its object's count rose; else the counts are as before. What it leaves.
     ensures causes { AreCauses (Some result) (So.faults source.old) (So.faults source.new) (Si.faults sink.old) (Si.faults sink.new) }
-    ensures read_text { result ≡ RunEnd.ReadFault → PrintsTaken (machine_of session.old.code) (So.left source.old) (So.left source.new) (Si.written sink.old) (Si.written sink.new) }
-    ensures write_text { result ≡ RunEnd.WriteFault → PrintsInTime (machine_of session.old.code) (So.left source.old) (So.left source.new) (Si.written sink.old) (Si.written sink.new) }
+    ensures read_text { result ≡ RunEnd.ReadFault →
+        PrintsTaken (machine_of session.old.code) (So.left source.old) (So.left source.new) (Si.written sink.old) (Si.written sink.new) }
+    ensures write_text { result ≡ RunEnd.WriteFault →
+        PrintsInTime (machine_of session.old.code) (So.left source.old) (So.left source.new) (Si.written sink.old) (Si.written sink.new) }
     ensures code { session.new.code ≡ session.old.code }
 {
     let mut buf = [0; 4096];

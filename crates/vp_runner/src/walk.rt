@@ -1,8 +1,8 @@
 //! A walk over bytes: a line that is held, and the answers to the lines before it.
 ghost use Rattle.std.specs.Prelude.{◌≡◌, ◌+◌, ◌<◌, ◌≤◌, ◌^◌, ◌++◌, [], OnOk, false, length, take};
 ghost use Rattle.vp_runner.specs.Progress.{IsCaused, Prints};
-ghost use Rattle.vp_stream.specs.Pieces.{byte_answer, held_after, held_of, resumed};
-ghost use Rattle.vp_stream.specs.Run.{line_answer, bad_at};
+ghost use Rattle.vp_stream.specs.Pieces.{held_after, held_of};
+ghost use Rattle.vp_stream.specs.Run.{bad_at};
 
 use crate::ends::{Cause, End, Fed};
 use crate::progress::{Answer, Progress};
@@ -19,7 +19,7 @@ pub(crate) enum Halt {
 }
 
 impl From<Halt> for Cause {
-    ghost use Rattle.vp_runner.specs.Sessions.{cause_of};
+    ghost use Rattle.vp_runner.specs.Halts.{cause_of};
 
     ghost from_gives = { λ h c. c ≡ cause_of h };
 
@@ -33,7 +33,7 @@ impl From<Halt> for Cause {
 }
 
 impl From<Halt> for Fed {
-    ghost use Rattle.vp_runner.specs.Sessions.{fed_of};
+    ghost use Rattle.vp_runner.specs.Halts.{fed_of};
 
     ghost from_gives = { λ h f. f ≡ fed_of h };
 
@@ -47,7 +47,7 @@ impl From<Halt> for Fed {
 }
 
 impl From<Halt> for End {
-    ghost use Rattle.vp_runner.specs.Sessions.{end_of};
+    ghost use Rattle.vp_runner.specs.Halts.{end_of};
 
     ghost from_gives = { λ h e. e ≡ end_of h };
 
@@ -83,13 +83,13 @@ fn print<Si: Sink>(sink: &mut Si, out: &[u8; 1024], answer: Answer) -> Result<()
 }
 
 impl Walk {
-    ghost use Rattle.vp_runner.specs.Progress.{Closes, HasRoom, Walks, answerer, standing};
+    ghost use Rattle.vp_runner.specs.Progress.{Closes, HasRoom, Walks, byte_gives, held_gives, piece_gives, standing};
 
     /// Answers the line that is held, as a whole one, and starts the next.
     pub(crate) fn answer_held<Si: Sink>(&mut self, sink: &mut Si) -> Result<(), Halt>
         requires lines { self.old.progress.lines + 1 < 2 ^ 64 }
         requires rounds { self.old.progress.rounds ≤ self.old.progress.lines }
-        ensures walk { Walks result (line_answer (answerer self.old.progress) (standing self.old.progress) self.old.line.text) (standing self.new.progress) (Si.written sink.old) (Si.written sink.new) }
+        ensures walk { Walks result (held_gives self.old) (standing self.new.progress) (Si.written sink.old) (Si.written sink.new) }
         ensures cause { IsCaused result (Si.faults sink.old) (Si.faults sink.new) }
         ensures code { self.new.progress.machine.code ≡ self.old.progress.machine.code }
         ensures line { self.new.line ≡ record { text = []; ended = false } }
@@ -101,6 +101,7 @@ impl Walk {
         self.line.clear();
         print(sink, &out, answer)
     }
+
     /// Says that the line that is held is too long.
     fn refuse<Si: Sink>(&mut self, sink: &mut Si) -> Result<(), Halt>
         requires { self.old.progress.lines + 1 < 2 ^ 64 }
@@ -116,12 +117,13 @@ impl Walk {
     /// Takes one byte.
     fn take_byte<Si: Sink>(&mut self, byte: u8, sink: &mut Si) -> Result<(), Halt>
         requires { HasRoom self.old 1 }
-        ensures walk { Walks result (byte_answer (answerer self.old.progress) (standing self.old.progress) self.old.line.text byte) (standing self.new.progress) (Si.written sink.old) (Si.written sink.new) }
+        ensures walk { Walks result (byte_gives self.old byte) (standing self.new.progress) (Si.written sink.old) (Si.written sink.new) }
         ensures cause { IsCaused result (Si.faults sink.old) (Si.faults sink.new) }
         ensures code { self.new.progress.machine.code ≡ self.old.progress.machine.code }
         ensures line { OnOk result (self.new.line ≡ record { text = held_after self.old.line.text byte; ended = false }) }
         ensures short { OnOk result (length self.new.line.text ≤ 4096) }
-        ensures lines { OnOk result (self.new.progress.lines + length self.new.line.text ≤ self.old.progress.lines + length self.old.line.text + 1) }
+        ensures lines { OnOk result (self.new.progress.lines + length self.new.line.text ≤
+            self.old.progress.lines + length self.old.line.text + 1) }
         ensures rounds { OnOk result (self.new.progress.rounds ≤ self.new.progress.lines) }
     {
         match self.line.next_byte(byte) {
@@ -134,24 +136,26 @@ impl Walk {
     /// Takes the bytes of a piece: each line's reply is printed before the next byte is looked at.
     pub(crate) fn take<Si: Sink>(&mut self, piece: &[u8], sink: &mut Si) -> Result<(), Halt>
         requires { HasRoom self.old (length piece.now) }
-        ensures walk { Walks result (resumed (answerer self.old.progress) (standing self.old.progress) self.old.line.text piece.now) (standing self.new.progress) (Si.written sink.old) (Si.written sink.new) }
+        ensures walk { Walks result (piece_gives self.old piece.now) (standing self.new.progress) (Si.written sink.old) (Si.written sink.new) }
         ensures cause { IsCaused result (Si.faults sink.old) (Si.faults sink.new) }
         ensures code { self.new.progress.machine.code ≡ self.old.progress.machine.code }
         ensures held { OnOk result (self.new.line.text ≡ held_of (self.old.line.text ++ piece.now)) }
         ensures room { OnOk result (HasRoom self.new 0) }
-        ensures lines { OnOk result (self.new.progress.lines + length self.new.line.text ≤ self.old.progress.lines + length self.old.line.text + length piece.now) }
+        ensures lines { OnOk result (self.new.progress.lines + length self.new.line.text ≤
+            self.old.progress.lines + length self.old.line.text + length piece.now) }
     {
         for byte in piece {
             self.take_byte(*byte, sink)?;
         }
         Ok(())
     }
+
     /// Answers the line that is held, which counts where it has bytes, and prints the end line with the
     /// number of sensings that were answered.
     pub(crate) fn finish<Si: Sink>(&mut self, sink: &mut Si) -> Result<u64, Halt>
         requires lines { self.old.progress.lines + 1 < 2 ^ 64 }
         requires rounds { self.old.progress.rounds ≤ self.old.progress.lines }
-        ensures text { Closes result (line_answer (answerer self.old.progress) (standing self.old.progress) self.old.line.text) (Si.written sink.old) (Si.written sink.new) }
+        ensures text { Closes result (held_gives self.old) (Si.written sink.old) (Si.written sink.new) }
         ensures cause { IsCaused result (Si.faults sink.old) (Si.faults sink.new) }
         ensures code { self.new.progress.machine.code ≡ self.old.progress.machine.code }
     {

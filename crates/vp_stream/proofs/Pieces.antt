@@ -1,6 +1,5 @@
 -- What further bytes add, byte by byte, and that cutting does not matter.
 use Rattle.std.proofs.Common.{◌≡◌, ℕ, ◌+◌, ◌<◌, ◌≤◌, ◌==◌, nat_lt, Bool, true, false, cond, List, [], ◌∷◌, ◌++◌, All, length, drop, Result, Ok, Err, refl, ap, sym, ◌∙◌, append_assoc, append-nil, arith, length-append}
-use Rattle.std.specs.List.{flat_map}
 use Rattle.std.proofs.lemmas.Bool.{eqb-true, le-ltb, lt-ltb, ltb-false, ltb-true}
 use Rattle.std.proofs.Math.Seq.{drop-append_seam, drop-length}
 use Rattle.std.proofs.lemmas.List.Elements.{All-nil, All-cons, All-append}
@@ -10,7 +9,7 @@ use Rattle.vp_stream.specs.declared.verdict.Ending.{Ending}
 use Rattle.vp_words.specs.Exchanges.{Exchange}
 use Rattle.vp_stream.specs.Run.{Standing, Walked, held_answer, line_answer, line_limit, lines_of, bad_at, so_far, start_of, text_of, then_on, waiting, walk}
 use Rattle.vp_stream.specs.declared.lines.LineTurn.TheVariants.{More, Line, TooLong}
-use Rattle.vp_stream.specs.Pieces.{IsNoLf, added, byte_answer, held_after, held_of, last_line, resumed, turn_of}
+use Rattle.vp_stream.specs.Pieces.{IsNoLf, added, byte_answer, held_after, held_of, joined, last_line, pieces_added, resumed, turn_of}
 use Rattle.vp_stream.proofs.Growth.{some_line, held_long, so_far_grows, walk_grows, lines_extended}
 
 none_at : (held : List ℕ) → All IsNoLf held → lines_of held ≡ held ∷ []
@@ -69,8 +68,6 @@ resumed_cons a s held byte more free = by (byte == 10) refl (free_after held byt
         → resumed a s held (byte ∷ more) ≡ then_on (cond t (line_answer a s held) (held_answer s (held ++ byte ∷ []))).answers (cond t (line_answer a s held) (held_answer s (held ++ byte ∷ []))).stands (λ u. resumed a u (cond t [] (held ++ byte ∷ [])) more)
     by true h f = ap (λ b. resumed a s held (b ∷ more)) (eqb-true byte 10 h) ∙ resumed_line a s held more free
     by false h f = resumed_byte a s held byte more f
-
--- bytes that are held, or end a run, and then others
 
 -- one answer more in front
 then_twice : {State : Type 0} (first : List Exchange) (r : Result (Standing State) Ending) (w v : Standing State → Walked State) (t : Standing State) (on : Standing State → Walked State)
@@ -222,15 +219,14 @@ added_more a bytes piece more =
     ∙ ap (λ l. l ++ added a (bytes ++ piece) more) (added_is a bytes piece) ∙ append_assoc front (added a bytes piece) (added a (bytes ++ piece) more) in
     ap (λ l. drop (length front) l) whole ∙ drop-append_seam front (added a bytes piece ++ added a (bytes ++ piece) more)
 
--- what pieces add, one after the other
-abbrev pub all_added : {State : Type 0} → Answerer State → List ℕ → List (List ℕ) → List ℕ
-all_added a bytes [] = []
-all_added a bytes (piece ∷ pieces) = added a bytes piece ++ all_added a (bytes ++ piece) pieces
-
--- cutting does not matter: pieces that join to the same bytes add the same
-pub cutting : {State : Type 0} (a : Answerer State) (pieces : List (List ℕ)) (bytes : List ℕ) → all_added a bytes pieces ≡ added a bytes (flat_map (λ p. p) pieces)
-cutting a [] bytes =
+-- no further bytes add nothing
+pub nothing_added : {State : Type 0} (a : Answerer State) (bytes : List ℕ) → added a bytes [] ≡ []
+nothing_added a bytes =
     let front = text_of (so_far a bytes) in
-    sym (ap (λ l. drop (length front) (text_of (so_far a l))) (append-nil bytes) ∙ drop-length front)
-cutting a (piece ∷ pieces) bytes =
-    ap (λ l. added a bytes piece ++ l) (cutting a pieces (bytes ++ piece)) ∙ sym (added_more a bytes piece (flat_map (λ p. p) pieces))
+    ap (λ l. drop (length front) (text_of (so_far a l))) (append-nil bytes) ∙ drop-length front
+
+-- pieces that join to the same bytes add the same
+pub pieces_add_their_join : {State : Type 0} (a : Answerer State) (pieces : List (List ℕ)) (bytes : List ℕ) → pieces_added a bytes pieces ≡ added a bytes (joined pieces)
+pieces_add_their_join a [] bytes = sym (nothing_added a bytes)
+pieces_add_their_join a (piece ∷ pieces) bytes =
+    ap (λ l. added a bytes piece ++ l) (pieces_add_their_join a pieces (bytes ++ piece)) ∙ sym (added_more a bytes piece (joined pieces))
