@@ -34,7 +34,7 @@ Completes IsOwed result before now =
 
 -- ---- faults
 
--- an object's fault is answered exactly where its count rose; else the count is as it was
+-- an object's fault is answered only where its count rose; else the count is as it was
 pub record IsCaused (fault result : Status) (before now : ℕ) : Type 0 where
   pub failed : result ≡ fault → Rose before now
   pub kept : result ≢ fault → now ≡ before

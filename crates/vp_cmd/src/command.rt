@@ -61,9 +61,11 @@ fn stream<So: Source, Si: Sink>(mut session: Session, input: &mut So, out: &mut 
     ensures streamed { IsStreamed result }
     ensures read_to_end { result ≡ Status.Done → IsAtEnd (So.left input.new) }
     ensures read_cause { IsCaused Status.ReadFault result (So.faults input.old) (So.faults input.new) }
-    ensures read_text { result ≡ Status.ReadFault → PrintsTaken (machine_of session.code) (So.left input.old) (So.left input.new) (Si.written out.old) (Si.written out.new) }
+    ensures read_text { result ≡ Status.ReadFault →
+        PrintsTaken (machine_of session.code) (So.left input.old) (So.left input.new) (Si.written out.old) (Si.written out.new) }
     ensures write_cause { IsCaused Status.WriteFault result (Si.faults out.old) (Si.faults out.new) }
-    ensures write_text { result ≡ Status.WriteFault → PrintsInTime (machine_of session.code) (So.left input.old) (So.left input.new) (Si.written out.old) (Si.written out.new) }
+    ensures write_text { result ≡ Status.WriteFault →
+        PrintsInTime (machine_of session.code) (So.left input.old) (So.left input.new) (Si.written out.old) (Si.written out.new) }
 {
     status_at(run_stream(&mut session, input, out))
 }
@@ -81,11 +83,12 @@ pub fn vphy<St: Store, So: Source, Si: Sink>(
     // written, or something outside failed. Where no count of faults rose, nothing outside failed.
     ensures content { Fulfils (IsOwed (St.files store.old) (So.left input.old) (chosen (texts words.now)))
         result (Si.written out.old) (Si.written out.new) }
-    ensures complete { NoFault (St.faults store.old) (St.faults store.new) (So.faults input.old) (So.faults input.new) (Si.faults out.old) (Si.faults out.new) →
+    ensures complete { NoFault (St.faults store.old) (St.faults store.new)
+        (So.faults input.old) (So.faults input.new) (Si.faults out.old) (Si.faults out.new) →
         Completes (IsOwed (St.files store.old) (So.left input.old) (chosen (texts words.now)))
         result (Si.written out.old) (Si.written out.new) }
 
-    // A fault is answered exactly where its object's count rose.
+    // A fault is answered only where its object's count rose; else that count is as it was.
     ensures store_cause { IsCaused Status.StoreFault result (St.faults store.old) (St.faults store.new) }
     ensures read_cause { IsCaused Status.ReadFault result (So.faults input.old) (So.faults input.new) }
     ensures write_cause { IsCaused Status.WriteFault result (Si.faults out.old) (Si.faults out.new) }
