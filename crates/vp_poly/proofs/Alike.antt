@@ -1,5 +1,5 @@
 -- Expressions with one tree have one weight and the same coefficients.
-use Rattle.std.proofs.Common.{◌≡◌, ℕ, List, refl, sym, ap, ap₂, ◌∙◌, subst}
+use Rattle.std.proofs.Common.{◌≡◌, List, refl, sym, ap, ap₂, ◌∙◌, subst}
 use Rattle.vp_terms.specs.Rational.{sum, difference}
 use Rattle.vp_terms.specs.Meaning.{rational}
 use Rattle.vp_terms.specs.Tree.{ExprTree, Constant, Place, Sum, Difference, Product, Power, expr_tree}

@@ -1,5 +1,5 @@
 -- The places of sums, products and multiples: any property of exponents that products keep.
-use Rattle.std.proofs.Common.{◌≡◌, ℕ, zero, suc, ◌+◌, ◌<◌, ◌≤◌, Bool, true, false, IsTrue, nat_lt, List, [], ◌∷◌, refl, arith, ℤ, pos, ◌+ℤ◌, Some, None, if◌then◌else◌, slice_index}
+use Rattle.std.proofs.Common.{◌≡◌, ℕ, zero, suc, ◌+◌, ◌≤◌, Bool, true, false, IsTrue, nat_lt, List, [], ◌∷◌, refl, arith, ℤ, pos, ◌+ℤ◌, Some, None, if◌then◌else◌, slice_index}
 use Rattle.std.specs.Ordering.{int_eq}
 use Rattle.std.specs.List.{All}
 use Rattle.std.specs.declared.cmp.Ordering.{Ordering}

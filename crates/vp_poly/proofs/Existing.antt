@@ -1,8 +1,8 @@
 -- Each expression that isn't over has a polynomial, where variables stand for themselves.
-use Rattle.std.proofs.Common.{◌≡◌, ◌≢◌, ℕ, zero, suc, ◌+◌, ◌*◌, ◌/◌, ◌<◌, ◌≤◌, ◌^◌, Bool, true, false, ◌&&◌, IsTrue, List, [], ◌∷◌, length, map, replicate, Some, slice_get, unwrap_or, refl, sym, ap, ◌∙◌, subst, arith, ℤ, pos, neg_ℤ, unsigned_abs}
+use Rattle.std.proofs.Common.{◌≡◌, ◌≢◌, ℕ, zero, suc, ◌+◌, ◌*◌, ◌/◌, ◌<◌, ◌≤◌, ◌^◌, Bool, true, false, ◌&&◌, IsTrue, List, [], length, map, replicate, Some, slice_get, unwrap_or, refl, sym, ap, subst, arith, pos, neg_ℤ, unsigned_abs}
 use Rattle.std.specs.List.{range_with_len}
 use Rattle.std.proofs.lemmas.Int.{ints}
-use Rattle.std.proofs.lemmas.List.{length-map, length-set}
+use Rattle.std.proofs.lemmas.List.{length-set}
 use Rattle.std.proofs.Math.Nat.{mul-pos}
 use Rattle.vp_terms.specs.Rational.{Rational, sum, difference, product, power, size_positive}
 use Rattle.vp_terms.specs.Meaning.{Assignment, rational, value}
@@ -16,7 +16,7 @@ use Rattle.vp_terms.proofs.Agreeing.{both}
 use Rattle.vp_terms.proofs.RationalLaws.{chain}
 use Rattle.vp_terms.proofs.Spots.{place_is_below}
 use Rattle.vp_poly.specs.declared.mono.Term.{Term}
-use Rattle.vp_poly.specs.Canonical.{IsCanonical, IsWeighed, itself, unit, selves, own_weights, variables, weights_of}
+use Rattle.vp_poly.specs.Canonical.{IsCanonical, IsWeighed, itself, unit, own_weights, variables, weights_of}
 use Rattle.vp_poly.specs.Coefficient.{Coefficients, coefficients, times, to_power}
 use Rattle.vp_poly.specs.Lcm.{lcm, Shares}
 use Rattle.vp_poly.specs.Merge.{merged}

@@ -3,9 +3,9 @@ use Rattle.std.proofs.Common.{◌≡◌, ◌≢◌, ◌⊎◌, inl, inr, Bool, �
 use Rattle.std.proofs.lemmas.Int.{ints}
 use Rattle.std.proofs.Math.IntN.{zero-*ℤ}
 use Rattle.vp_terms.specs.Rational.{whole, sum, product, Equals}
-use Rattle.vp_terms.proofs.RationalLaws.{chain, Equals-refl, Equals-sym, Equals-sum, Equals-product, Equals-power}
+use Rattle.vp_terms.proofs.RationalLaws.{Equals-refl, Equals-sum, Equals-product, Equals-power}
 use Rattle.vp_poly.specs.declared.mono.Term.{Term}
-use Rattle.vp_poly.specs.Poly.{Powers, coef, scaled, IsOrdered, IsPoly}
+use Rattle.vp_poly.specs.Poly.{Powers, coef, scaled, IsPoly}
 use Rattle.vp_poly.specs.Merge.{merged}
 use Rattle.vp_poly.specs.Places.{HaveOnly}
 use Rattle.vp_poly.specs.Value.{Point, value_at, powers_value}

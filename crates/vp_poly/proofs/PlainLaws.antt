@@ -1,12 +1,12 @@
 -- Variables that stand for themselves.
-use Rattle.std.proofs.Common.{◌≡◌, ◌≢◌, ℕ, zero, suc, ◌+◌, ◌<◌, ◌≤◌, List, [], ◌∷◌, ◌++◌, map, sum, replicate, set, slice_get, slice_set, IfSome, IsTrue, Bool, true, false, refl, sym, ap, ◌∙◌, subst, arith, ℤ, pos, ◌+ℤ◌}
+use Rattle.std.proofs.Common.{◌≡◌, ◌≢◌, ℕ, zero, suc, ◌+◌, ◌<◌, ◌≤◌, List, [], ◌∷◌, ◌++◌, map, sum, replicate, set, slice_get, slice_set, IfSome, IsTrue, Bool, refl, sym, ap, ◌∙◌, subst, arith, ℤ, pos, ◌+ℤ◌}
 use Rattle.std.specs.List.{range_with_len, All}
 use Rattle.std.proofs.lemmas.Int.{ints}
 use Rattle.std.proofs.lemmas.List.{length-map, get_or-set_other}
 use Rattle.std.proofs.lemmas.List.Elements.{All-cons}
 use Rattle.std.proofs.lemmas.List.FromFn.{length-range_with_len, map-range_with_len_more}
 use Rattle.vp_terms.specs.Meaning.{Assignment}
-use Rattle.vp_terms.specs.Places.{place, has_variable}
+use Rattle.vp_terms.specs.Places.{place}
 use Rattle.vp_terms.specs.declared.expr.Var.{Var}
 use Rattle.vp_terms.specs.Rational.{Rational, whole, product, Equals}
 use Rattle.vp_terms.proofs.RationalLaws.{chain, Equals-sym, Equals-product, sum-zero}

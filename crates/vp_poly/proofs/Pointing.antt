@@ -1,5 +1,5 @@
 -- Points at which the variables of a model have given values.
-use Rattle.std.proofs.Common.{◌≡◌, ℕ, ◌<◌, ◌≤◌, ◌⊎◌, inl, inr, IsTrue, sym, subst, arith, pos, List}
+use Rattle.std.proofs.Common.{ℕ, ◌<◌, ◌≤◌, ◌⊎◌, inl, inr, IsTrue, sym, subst, arith, pos, List}
 use Rattle.vp_terms.specs.Rational.{Rational, whole, Equals}
 use Rattle.vp_terms.specs.Meaning.{Assignment}
 use Rattle.vp_terms.specs.Places.{place, place_count, has_variable}

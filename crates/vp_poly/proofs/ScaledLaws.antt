@@ -7,13 +7,14 @@ use Rattle.vp_poly.specs.Canonical.{IsWeighed}
 use Rattle.vp_poly.specs.Rooms.{IsRoomy}
 use Rattle.vp_poly.specs.Product.{split_sum}
 use Rattle.vp_poly.specs.Coefficient.{Coefficients, times}
-use Rattle.vp_poly.specs.Times.{HasCoefficients, IsTimes}
+use Rattle.vp_poly.specs.Times.{HasCoefficients, IsTimes, negation}
 use Rattle.vp_poly.specs.Weights.{Weights, fits, weight_product, weight_sum}
 use Rattle.vp_poly.specs.Lcm.{lcm, Shares}
 use Rattle.vp_terms.specs.Rational.{Rational, whole, sum, difference, product as times_q, Equals}
 use Rattle.vp_terms.proofs.RationalLaws.{chain, Equals-sum}
 use Rattle.vp_poly.specs.Value.{Point, value_at}
-use Rattle.vp_poly.proofs.TimesLaws.{IsTimes-same, IsTimes-product, IsTimes-total, IsTimes-difference, HasCoefficients-product, HasCoefficients-sum, HasCoefficients-difference}
+use Rattle.vp_poly.proofs.TimesLaws.{IsTimes-same, IsTimes-opposite, IsTimes-turned, IsTimes-product, IsTimes-total, IsTimes-difference, HasCoefficients-product, HasCoefficients-sum, HasCoefficients-difference}
+use Rattle.vp_poly.proofs.ProductValues.{whole-product}
 use Rattle.vp_poly.proofs.WeighedLaws.{IsUnder-fits, product-small, product-few, product-low, IsWeighed-product, IsRoomy-of, scale-small, IsWeighed-sum}
 
 den_product : (v w : Weights) → fits (weight_product v w) ≡ true → v.den * w.den ≡ (weight_product v w).den
@@ -77,6 +78,22 @@ total-values xs ys ls rs zs v w r k l a q s e ok sh vl vr vz h i =
     let d = den_sum v w ok ∙ ap (λ (u : Weights). u.den) (sym e) in
     IsTimes-same r.den _ _ _ (chain vz (Equals-sum _ _ _ _ vl vr))
     (IsTimes-total k l v.den w.den r.den (value_at xs a) (value_at ys a) q s (sh.left_whole ∙ d) (sh.right_whole ∙ d) h i)
+
+-- ---- the opposite, and the difference as a sum with it
+
+pub opposite-coefficients : (xs zs : List Term) (v r : Weights) (k : ℤ) → r ≡ v → k ≡ neg_ℤ (pos 1) → ((m : Powers) → coef zs m ≡ k *ℤ coef xs m) →
+    (f : Coefficients) → HasCoefficients v.den xs f → HasCoefficients r.den zs (λ m. negation (f m))
+opposite-coefficients xs zs v r k e n c f h = record {
+  each = λ m. IsTimes-same r.den _ _ _ (subst (λ (z : ℤ). Equals (whole z) (times_q (whole k) (whole (coef xs m)))) (sym (c m)) (whole-product k (coef xs m)))
+      (IsTimes-opposite v.den r.den k _ _ n (ap (λ (w : Weights). w.den) (sym e)) (h.each m));
+}
+
+pub opposite-values : (v r : Weights) (k : ℤ) (x y : Rational) → r ≡ v → k ≡ neg_ℤ (pos 1) → Equals y (times_q (whole k) x) →
+    (q : Rational) → IsTimes v.den x q → IsTimes r.den y (negation q)
+opposite-values v r k x y e n c q h = IsTimes-same r.den _ _ _ c (IsTimes-opposite v.den r.den k x q n (ap (λ (w : Weights). w.den) (sym e)) h)
+
+pub turned-coefficients : (d : ℕ) (zs : List Term) (f g : Coefficients) → HasCoefficients d zs (λ m. sum (f m) (negation (g m))) → HasCoefficients d zs (λ m. difference (f m) (g m))
+turned-coefficients d zs f g h = record { each = λ m. IsTimes-turned d _ _ _ (h.each m) }
 
 -- ---- the difference
 

@@ -1,5 +1,5 @@
 -- Sums over the ways to split a monomial in three.
-use Rattle.std.proofs.Common.{◌≡◌, ℕ, zero, suc, ◌+◌, ◌-◌, ◌≤◌, [], ◌∷◌, refl, sym, ap, ◌∙◌, subst, arith, ℤ, pos, ◌+ℤ◌, ◌*ℤ◌}
+use Rattle.std.proofs.Common.{◌≡◌, ℕ, zero, suc, ◌-◌, ◌≤◌, [], ◌∷◌, refl, sym, ap, ◌∙◌, subst, arith, ℤ, ◌+ℤ◌, ◌*ℤ◌}
 use Rattle.std.proofs.lemmas.Int.{ints}
 use Rattle.vp_poly.specs.Poly.{Powers}
 use Rattle.vp_poly.specs.Product.{split_sum}

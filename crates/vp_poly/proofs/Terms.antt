@@ -1,8 +1,8 @@
 -- What one term of a polynomial keeps.
-use Rattle.std.proofs.Common.{◌≡◌, ◌≢◌, ℕ, zero, suc, ◌<◌, ◌≤◌, Bool, List, [], ◌∷◌, length, sum, get_or, take, max, ◌+◌, arith, pos, ◌+ℤ◌, unsigned_abs, subst, sym, ap, ◌∙◌}
+use Rattle.std.proofs.Common.{◌≡◌, ◌≢◌, ℕ, zero, suc, ◌<◌, ◌≤◌, Bool, List, [], ◌∷◌, length, sum, get_or, take, max, ◌+◌, arith, pos, unsigned_abs, subst, sym}
 use Rattle.std.proofs.lemmas.Int.{ints}
 use Rattle.vp_poly.specs.declared.mono.Term.{Term}
-use Rattle.vp_poly.specs.Poly.{Powers, coef, norm, degree, only_at, IsBefore, IsOrdered, IsPoly}
+use Rattle.vp_poly.specs.Poly.{coef, norm, degree, only_at, IsBefore, IsOrdered, IsPoly}
 use Rattle.vp_poly.specs.Places.{IsBelow, AreBelow, HasOnly, HaveOnly}
 use Rattle.vp_poly.proofs.PolyLaws.{coef-le-norm}
 use Rattle.vp_poly.proofs.RowLaws.{degree-le}

@@ -1,5 +1,5 @@
 -- Laws of whole multiples.
-use Rattle.std.proofs.Common.{◌≡◌, ℕ, zero, suc, ◌-◌, ◌*◌, Bool, true, false, cond, ◌==◌, List, [], ◌∷◌, ap, subst, arith, ℤ, pos, ◌+ℤ◌, ◌-ℤ◌, ◌*ℤ◌, neg_ℤ}
+use Rattle.std.proofs.Common.{◌≡◌, ℕ, zero, suc, ◌-◌, ◌*◌, Bool, true, false, cond, ◌==◌, List, [], ◌∷◌, ap, sym, subst, arith, ℤ, pos, ◌+ℤ◌, ◌-ℤ◌, ◌*ℤ◌, neg_ℤ}
 use Rattle.vp_terms.specs.Rational.{Rational, whole, sum, difference, product, Equals}
 use Rattle.vp_terms.proofs.Gaps.{gap-of, gap-same, gaps}
 use Rattle.vp_terms.proofs.RationalLaws.{chain, Equals-refl, Equals-sym, Equals-sum, Equals-product, product-distributes}
@@ -7,9 +7,9 @@ use Rattle.vp_poly.specs.declared.mono.Term.{Term}
 use Rattle.vp_poly.specs.Poly.{Powers, only_at, coef}
 use Rattle.vp_poly.specs.Product.{sum_to, over_splits, split_sum}
 use Rattle.vp_poly.proofs.SplitLaws.{int_sum}
-use Rattle.vp_poly.proofs.ProductValues.{product-interchange, product-assoc, whole-product}
+use Rattle.vp_poly.proofs.ProductValues.{product-interchange, product-one, product-assoc, whole-product}
 use Rattle.vp_poly.specs.Coefficient.{Coefficients, fraction_at, times}
-use Rattle.vp_poly.specs.Times.{IsTimes, HasCoefficients}
+use Rattle.vp_poly.specs.Times.{IsTimes, HasCoefficients, negation}
 
 pub IsTimes-same : (d : ℕ) (v w q : Rational) → Equals v w → IsTimes d w q → IsTimes d v q
 IsTimes-same d v w q e h = record { same = chain e h.same }
@@ -61,6 +61,22 @@ IsTimes-difference k l a b d v w q r e f h g =
     let left = subst (λ (n : ℕ). IsTimes n (product (whole (pos k)) v) q) e (IsTimes-scaled k a v q h) in
     let right = subst (λ (n : ℕ). Equals (product (whole (neg_ℤ (pos l))) w) (product (whole (neg_ℤ (pos n))) r)) f (negated-scaled l b w r g) in
     record { same = chain (Equals-sum _ _ _ _ left.same right) (difference-distributes d q r) }
+
+-- ---- a difference as a sum with the opposite
+
+pub IsTimes-opposite : (d e : ℕ) (k : ℤ) (v q : Rational) → k ≡ neg_ℤ (pos 1) → d ≡ e → IsTimes d v q → IsTimes e (product (whole k) v) (negation q)
+IsTimes-opposite d e k v q f g h =
+    let one : ℕ = 1 in
+    let own : IsTimes 1 (whole k) (whole (neg_ℤ (pos 1))) = record { same = subst (λ (z : ℤ). Equals (whole z) (product (whole (pos 1)) (whole (neg_ℤ (pos 1))))) (sym f) (product-one (whole (neg_ℤ (pos 1)))) } in
+    subst (λ (n : ℕ). IsTimes n (product (whole k) v) (negation q)) (let a : 1 * d ≡ e = omega arith in a) (IsTimes-product 1 d (whole k) v (whole (neg_ℤ (pos 1))) q own h)
+
+opposite-difference : (q r : Rational) → Equals (sum q (negation r)) (difference q r)
+opposite-difference q r =
+    chain (Equals-sum _ _ _ _ (product-one q) (Equals-refl (negation r)))
+    (chain (difference-distributes 1 q r) (Equals-sym _ _ (product-one (difference q r))))
+
+pub IsTimes-turned : (d : ℕ) (v q r : Rational) → IsTimes d v (sum q (negation r)) → IsTimes d v (difference q r)
+IsTimes-turned d v q r h = record { same = chain h.same (Equals-product _ _ _ _ (Equals-refl (whole (pos d))) (opposite-difference q r)) }
 
 -- ---- coefficients
 

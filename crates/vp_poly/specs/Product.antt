@@ -1,6 +1,6 @@
--- The product of two lists of terms, and the sum over all ways to split a monomial in two.
-use Rattle.std.specs.Prelude.{◌≡◌, ℕ, Bool, zero, suc, ◌+◌, ◌-◌, ◌*◌, List, [], ◌∷◌, map, length, ℤ, ◌+ℤ◌, ◌*ℤ◌}
-use Rattle.vp_terms.specs.Rational.{Equals, product}
+-- The product and the sum of two lists of terms, and the sum over all ways to split a monomial in two.
+use Rattle.std.specs.Prelude.{◌≡◌, ℕ, Bool, zero, suc, ◌+◌, ◌-◌, ◌*◌, List, [], ◌∷◌, map, length, max, ℤ, ◌+ℤ◌, ◌*ℤ◌}
+use Rattle.vp_terms.specs.Rational.{Equals, product, sum}
 use Rattle.vp_poly.specs.declared.mono.Term.{Term}
 use Rattle.vp_poly.specs.Poly.{Powers, coef, norm, degree, IsPoly, IsWithin}
 use Rattle.vp_poly.specs.Places.{AreBelow, HaveOnly}
@@ -45,5 +45,14 @@ pub record IsProduct (xs ys zs : List Term) : Type 0 where
   pub values : (a : Point) → Equals (value_at zs a) (product (value_at xs a) (value_at ys a))
   pub poly : IsPoly zs
   pub sizes : IsWithin zs (norm xs * norm ys) (degree xs + degree ys) (length xs * length ys)
+  pub places : (v : ℕ) → AreBelow v xs → AreBelow v ys → AreBelow v zs
+  pub only : (allowed : ℕ → Bool) → HaveOnly allowed xs → HaveOnly allowed ys → HaveOnly allowed zs
+
+-- `zs` is the sum of two polynomials
+pub record IsTotal (xs ys zs : List Term) : Type 0 where
+  pub coefficients : (m : Powers) → coef zs m ≡ coef xs m +ℤ coef ys m
+  pub values : (a : Point) → Equals (value_at zs a) (sum (value_at xs a) (value_at ys a))
+  pub poly : IsPoly zs
+  pub sizes : IsWithin zs (norm xs + norm ys) (max (degree xs) (degree ys)) (length xs + length ys)
   pub places : (v : ℕ) → AreBelow v xs → AreBelow v ys → AreBelow v zs
   pub only : (allowed : ℕ → Bool) → HaveOnly allowed xs → HaveOnly allowed ys → HaveOnly allowed zs

@@ -27,6 +27,7 @@ use vp_words::Counts;
 pub enum PolyErr {
     /// The weight of the expression is over the limits.
     Wide,
+    /// There was too little memory for the polynomial.
     Memory,
 }
 

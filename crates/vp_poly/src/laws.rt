@@ -1,6 +1,6 @@
 //! Laws of polynomials, weights and coefficients: the contracts of these functions say them, and
 //! their bodies do nothing.
-ghost use Rattle.std.specs.Prelude.{◌≡◌, ◌*◌, ◌/◌, ◌+ℤ◌, ◌*ℤ◌, ◌<◌, ◌≤◌, ℕ, ℤ, Bool, IsTrue, List, length, nat_lt, pos, swap, true};
+ghost use Rattle.std.specs.Prelude.{◌≡◌, ◌+◌, ◌*◌, ◌/◌, ◌^◌, ◌+ℤ◌, ◌*ℤ◌, ◌<◌, ◌≤◌, ℕ, ℤ, Bool, IsTrue, List, length, nat_lt, pos, swap, true};
 ghost use Rattle.std.specs.List.{range_with_len};
 ghost use Rattle.std.specs.Int.{IsGcd};
 ghost use Rattle.vp_terms.specs.Rational.{Rational, Equals, difference, product, sum, whole};
@@ -14,14 +14,14 @@ ghost use Rattle.vp_terms.specs.declared.formula.Cmp.{Cmp};
 ghost use Rattle.vp_terms.specs.declared.expr.Var.{Var};
 ghost use Rattle.vp_terms.specs.declared.expr.Expr.{Expr};
 ghost use Rattle.vp_poly.specs.declared.mono.Term.{Term};
-ghost use Rattle.vp_poly.specs.Poly.{Powers, IsPoly, coef};
+ghost use Rattle.vp_poly.specs.Poly.{Powers, IsPoly, coef, degree, norm};
 ghost use Rattle.vp_poly.specs.Places.{AreBelow, HaveOnly, IsRenaming, before_renaming, point_before};
 ghost use Rattle.vp_poly.specs.Points.{IsAt, Sends};
 ghost use Rattle.vp_poly.specs.Whole.{IsWhole, whole_value};
 ghost use Rattle.vp_poly.specs.Value.{Point, value_at};
 ghost use Rattle.vp_poly.specs.Lcm.{Shares, gcd, lcm};
 ghost use Rattle.vp_poly.specs.Coefficient.{Coefficients, coefficients, times};
-ghost use Rattle.vp_poly.specs.Product.{split_sum};
+ghost use Rattle.vp_poly.specs.Product.{IsProduct, IsTotal, split_sum};
 ghost use Rattle.vp_poly.specs.Times.{HasCoefficients, IsTimes};
 ghost use Rattle.vp_poly.specs.Weights.{Weights, fits, weight, weight_between, weight_in};
 ghost use Rattle.vp_poly.specs.Unbounded.{exact_weight, all_fit};
@@ -214,4 +214,13 @@ pub fn canonical_polynomials_have_values()
         (0 < (weight_between p (own_weights (place_count p)) e f).den) ×
         IsTimes (weight_between p (own_weights (place_count p)) e f).den (value_at ts x)
         (difference (value e a) (value f a)) }
+{}
+
+/// Two polynomials have a sum and a product, where these are within the bounds.
+pub fn polynomials_add_and_multiply()
+    ensures sums { (xs ys : List Term) → IsPoly xs → IsPoly ys → norm xs + norm ys < 2 ^ 126 →
+        length xs + length ys < 2 ^ 32 → (zs : List Term) × IsTotal xs ys zs }
+    ensures products { (xs ys : List Term) → IsPoly xs → IsPoly ys → norm xs * norm ys < 2 ^ 126 →
+        length xs * length ys < 2 ^ 32 → degree xs + degree ys ≤ 48 →
+        (zs : List Term) × IsProduct xs ys zs }
 {}

@@ -1,13 +1,13 @@
 //! Polynomials with their weights: numbers, sums, differences, products and powers.
 
-ghost use Rattle.std.specs.Prelude.{◌≡◌, Bool, ◌<◌, ◌*◌, ◌^◌, ◌*ℤ◌, ℕ, neg_ℤ, length, replicate, pos, IfOk, true};
+ghost use Rattle.std.specs.Prelude.{◌≡◌, Bool, ◌<◌, ◌*◌, ◌^◌, ◌*ℤ◌, ℕ, length, replicate, pos, IfOk, true};
 ghost use Rattle.vp_poly.specs.Weights.{fits, weight_number, weight_product, weight_power, weight_sum};
 ghost use Rattle.vp_poly.specs.Coefficient.{Coefficients, constant, times, to_power};
 ghost use Rattle.vp_poly.specs.Poly.{Powers, IsPoly, IsWithin, coef, norm, degree};
 ghost use Rattle.vp_terms.specs.Rational.{Rational, Equals, whole, sum, difference as minus, product as times_q, power as power_q};
 ghost use Rattle.vp_terms.specs.Meaning.{rational};
 ghost use Rattle.vp_poly.specs.Value.{Point, value_at};
-ghost use Rattle.vp_poly.specs.Times.{HasCoefficients, IsTimes};
+ghost use Rattle.vp_poly.specs.Times.{HasCoefficients, IsTimes, negation};
 ghost use Rattle.vp_poly.specs.Places.{AreBelow, HaveOnly};
 ghost use Rattle.vp_poly.specs.Canonical.{IsWeighed};
 ghost use Rattle.vp_poly.specs.Unity.{unity};
@@ -122,8 +122,46 @@ pub(crate) fn total(alloc: Global, a: &Scaled, b: &Scaled) -> Result<Scaled, All
     Ok(Scaled { poly, weight })
 }
 
+fn scale_by(alloc: Global, poly: &Poly, by: u128) -> Result<Poly, AllocError>
+    requires fits { by < 2 ^ 62 }
+    requires small { norm poly.now * by < 2 ^ 126 }
+    ensures coefficients { IfOk result (λ p. (m : Powers) → coef p m ≡ pos by *ℤ coef poly.now m) }
+    ensures values { IfOk result (λ p. (a : Point) →
+        Equals (value_at p a) (times_q (whole (pos by)) (value_at poly.now a))) }
+    ensures sizes { IfOk result (λ p. IsWithin p (norm poly.now * by) (degree poly.now)
+        (length poly.now)) }
+    ensures canonical { IfOk result IsPoly }
+    ensures places { (v : ℕ) → AreBelow v poly.now → IfOk result (AreBelow v) }
+    ensures only { (allowed : ℕ → Bool) → HaveOnly allowed poly.now →
+        IfOk result (HaveOnly allowed) }
+{
+    poly.scale(alloc, by as i128)
+}
+
+// The same with the other sign.
+fn negated(alloc: Global, a: &Scaled) -> Result<Scaled, AllocError>
+    requires { IsWeighed a.now.poly a.now.weight }
+    ensures weight { IfOk result (λ s. s.weight ≡ a.now.weight) }
+    ensures weighed { IfOk result (λ s. IsWeighed s.poly s.weight) }
+    ensures canonical { IfOk result (λ s. IsPoly s.poly) }
+    ensures places { (v : ℕ) → AreBelow v a.now.poly → IfOk result (λ s. AreBelow v s.poly) }
+    ensures only { (allowed : ℕ → Bool) → HaveOnly allowed a.now.poly →
+        IfOk result (λ s. HaveOnly allowed s.poly) }
+    ensures coefficients { IfOk result (λ s. (f : Coefficients) →
+        HasCoefficients a.now.weight.den a.now.poly f →
+        HasCoefficients s.weight.den s.poly (λ m. negation (f m))) }
+    ensures values { IfOk result (λ s. (x : Point) (q : Rational) →
+        IsTimes a.now.weight.den (value_at a.now.poly x) q →
+        IsTimes s.weight.den (value_at s.poly x) (negation q)) }
+{
+    let poly = a.poly.scale(alloc, -1)?;
+    Ok(Scaled {
+        poly,
+        weight: a.weight,
+    })
+}
+
 // The difference, over the least common denominator.
-#[tactic(auto, using(crate::proofs::ScaledLaws::adding))]
 pub(crate) fn difference(alloc: Global, a: &Scaled, b: &Scaled) -> Result<Scaled, AllocError>
     requires left { IsWeighed a.now.poly a.now.weight }
     requires right { IsWeighed b.now.poly b.now.weight }
@@ -144,45 +182,9 @@ pub(crate) fn difference(alloc: Global, a: &Scaled, b: &Scaled) -> Result<Scaled
         IsTimes b.now.weight.den (value_at b.now.poly x) r →
         IsTimes s.weight.den (value_at s.poly x) (minus q r)) }
 {
-    let weight = a.weight.sum(&b.weight);
-    let (k, l) = a.weight.factors(&b.weight);
-    let left = scale_by(alloc, &a.poly, k)?;
-    let right = scale_down(alloc, &b.poly, l)?;
-    let poly = left.add(alloc, &right)?;
-    Ok(Scaled { poly, weight })
-}
-
-fn scale_by(alloc: Global, poly: &Poly, by: u128) -> Result<Poly, AllocError>
-    requires fits { by < 2 ^ 62 }
-    requires small { norm poly.now * by < 2 ^ 126 }
-    ensures coefficients { IfOk result (λ p. (m : Powers) → coef p m ≡ pos by *ℤ coef poly.now m) }
-    ensures values { IfOk result (λ p. (a : Point) →
-        Equals (value_at p a) (times_q (whole (pos by)) (value_at poly.now a))) }
-    ensures sizes { IfOk result (λ p. IsWithin p (norm poly.now * by) (degree poly.now)
-        (length poly.now)) }
-    ensures canonical { IfOk result IsPoly }
-    ensures places { (v : ℕ) → AreBelow v poly.now → IfOk result (AreBelow v) }
-    ensures only { (allowed : ℕ → Bool) → HaveOnly allowed poly.now →
-        IfOk result (HaveOnly allowed) }
-{
-    poly.scale(alloc, by as i128)
-}
-
-fn scale_down(alloc: Global, poly: &Poly, by: u128) -> Result<Poly, AllocError>
-    requires fits { by < 2 ^ 62 }
-    requires small { norm poly.now * by < 2 ^ 126 }
-    ensures coefficients { IfOk result (λ p. (m : Powers) →
-        coef p m ≡ neg_ℤ (pos by) *ℤ coef poly.now m) }
-    ensures values { IfOk result (λ p. (a : Point) →
-        Equals (value_at p a) (times_q (whole (neg_ℤ (pos by))) (value_at poly.now a))) }
-    ensures sizes { IfOk result (λ p. IsWithin p (norm poly.now * by) (degree poly.now)
-        (length poly.now)) }
-    ensures canonical { IfOk result IsPoly }
-    ensures places { (v : ℕ) → AreBelow v poly.now → IfOk result (AreBelow v) }
-    ensures only { (allowed : ℕ → Bool) → HaveOnly allowed poly.now →
-        IfOk result (HaveOnly allowed) }
-{
-    poly.scale(alloc, -(by as i128))
+    let opposite = negated(alloc, b)?;
+    let rest = total(alloc, a, &opposite)?;
+    Ok(rest)
 }
 
 // The repeated product; the power 0 is 1.

@@ -19,9 +19,13 @@ const MOST: u128 = (1 << 127) - 1;
 /// and the denominator at least 1.
 #[derive(Clone, Copy, Debug, PartialEq, Eq)]
 pub struct Weight {
+    /// At least the sum of the sizes of the coefficients; 2^127 - 1 where a proper part is over.
     pub norm: i128,
+    /// What the expression is multiplied by, at most 2^127 - 1.
     pub den: i128,
+    /// At least the greatest sum of a term's exponents, at most 2^32 - 1.
     pub degree: u32,
+    /// At least the number of terms, at most 2^32 - 1.
     pub terms: u32,
 }
 
