@@ -1,4 +1,4 @@
--- What stays of formulas and expressions whose variables are replaced.
+-- What stays of formulas and expressions whose variables are replaced, or stand for the same.
 use Rattle.std.proofs.Common.{◌≡◌, Bool, ◌&&◌, ◌||◌, not, IsTrue, refl, ap, ap₂}
 use Rattle.vp_terms.specs.Meaning.{Assignment, value, compares, holds}
 use Rattle.vp_terms.specs.Variables.{all_variables, all_variables_of}
@@ -8,6 +8,9 @@ use Rattle.vp_terms.specs.declared.expr.Expr.TheVariants.{Num, Var as Variable, 
 use Rattle.vp_terms.specs.declared.formula.Formula.{Formula}
 use Rattle.vp_terms.specs.declared.formula.Formula.TheVariants.{True, Cmp as Compare, And', Or', Not'}
 use Rattle.vp_terms.proofs.Agreeing.{both, both_true}
+use Rattle.vp_terms.specs.Rational.{sum, difference}
+use Rattle.vp_poly.specs.Coefficient.{Coefficients, coefficients, times, to_power}
+use Rattle.vp_poly.specs.Weights.{Weights, weight, weight_sum, weight_product, weight_power}
 use Rattle.vp_poly.specs.Replaced.{replaced, formula_replaced}
 use Rattle.vp_poly.proofs.Lawful.{value-replaced}
 
@@ -47,3 +50,21 @@ variables_of-replaced t u s (Compare c e f) h g = let b = both _ _ g in both_tru
 variables_of-replaced t u s (And' p f q k) h g = let b = both _ _ g in both_true _ _ (variables_of-replaced t u s f h b.0) (variables_of-replaced t u s k h b.1)
 variables_of-replaced t u s (Or' p f q k) h g = let b = both _ _ g in both_true _ _ (variables_of-replaced t u s f h b.0) (variables_of-replaced t u s k h b.1)
 variables_of-replaced t u s (Not' p f) h g = variables_of-replaced t u s f h g
+
+-- ---- what depends on the variables alone
+
+pub coefficients-same : (t : Var → Bool) (f g : Var → Coefficients) (e : Expr) → ((v : Var) → IsTrue (t v) → f v ≡ g v) → IsTrue (all_variables t e) → coefficients f e ≡ coefficients g e
+coefficients-same t f g (Num r) h k = refl
+coefficients-same t f g (Variable v) h k = h v k
+coefficients-same t f g (Add' p e q d) h k = let b = both _ _ k in ap₂ (λ (x y : Coefficients). λ m. sum (x m) (y m)) (coefficients-same t f g e h b.0) (coefficients-same t f g d h b.1)
+coefficients-same t f g (Sub' p e q d) h k = let b = both _ _ k in ap₂ (λ (x y : Coefficients). λ m. difference (x m) (y m)) (coefficients-same t f g e h b.0) (coefficients-same t f g d h b.1)
+coefficients-same t f g (Mul' p e q d) h k = let b = both _ _ k in ap₂ times (coefficients-same t f g e h b.0) (coefficients-same t f g d h b.1)
+coefficients-same t f g (Pow' p e n) h k = ap (λ (x : Coefficients). to_power x n) (coefficients-same t f g e h k)
+
+pub weight-same : (t : Var → Bool) (f g : Var → Weights) (e : Expr) → ((v : Var) → IsTrue (t v) → f v ≡ g v) → IsTrue (all_variables t e) → weight f e ≡ weight g e
+weight-same t f g (Num r) h k = refl
+weight-same t f g (Variable v) h k = h v k
+weight-same t f g (Add' p e q d) h k = let b = both _ _ k in ap₂ weight_sum (weight-same t f g e h b.0) (weight-same t f g d h b.1)
+weight-same t f g (Sub' p e q d) h k = let b = both _ _ k in ap₂ weight_sum (weight-same t f g e h b.0) (weight-same t f g d h b.1)
+weight-same t f g (Mul' p e q d) h k = let b = both _ _ k in ap₂ weight_product (weight-same t f g e h b.0) (weight-same t f g d h b.1)
+weight-same t f g (Pow' p e n) h k = ap (λ (w : Weights). weight_power w n) (weight-same t f g e h k)

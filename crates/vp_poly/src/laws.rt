@@ -159,6 +159,16 @@ pub fn replacing_composes()
         IsTrue (all_variables_of u (formula_replaced s f)) }
 {}
 
+/// Coefficients and weights depend on what stands for the variables that an expression has: on those
+/// that pass a test, where all of its variables do.
+pub fn polynomials_depend_on_variables()
+    ensures coefficients { (t : Var → Bool) (f g : Var → Coefficients) (e : Expr) →
+        ((v : Var) → IsTrue (t v) → f v ≡ g v) → IsTrue (all_variables t e) →
+        coefficients f e ≡ coefficients g e }
+    ensures weights { (t : Var → Bool) (v w : Var → Weights) (e : Expr) →
+        ((x : Var) → IsTrue (t x) → v x ≡ w x) → IsTrue (all_variables t e) → weight v e ≡ weight w e }
+{}
+
 /// A renaming that leaves each place is one, and stays one where two of its places change.
 pub fn renamings_are_exchanges()
     ensures none { IsRenaming (range_with_len 0 32) }

@@ -16,6 +16,7 @@ mod weight;
 pub use canonical::{PolyErr, of_difference, of_expr, weights_of};
 pub use environment::plain;
 pub use mono::{Mono, Term};
+pub use places::{counts_of, place_in};
 pub use poly::Poly;
 pub use scaled::Scaled;
 pub use weight::{Weight, lcm, weigh};

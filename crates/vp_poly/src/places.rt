@@ -2,19 +2,34 @@
 
 ghost use Rattle.std.specs.Prelude.{◌≡◌};
 ghost use Rattle.vp_terms.specs.Places.{place};
+ghost use Rattle.vp_terms.specs.WellFormed.{AreGoodNames, places_of};
+ghost use Rattle.vp_words.specs.Record.{IsValid};
 ghost use Rattle.vp_poly.specs.Places.{places_for};
 
-use vp_terms::{Places, Var};
+use vp_terms::{Names, Places, Var};
 use vp_words::Counts;
 
-/// The place of a variable, from 0.
-pub(crate) fn place_in(variable: Var, counts: Counts) -> usize
-    ensures { result ≡ place (places_for counts) variable }
+/// How many parameters, states and controls there are names for.
+pub fn counts_of(names: &Names) -> Counts
+    requires { AreGoodNames names.now }
+    ensures same { places_for result ≡ places_of names.now }
+    ensures valid { IsValid result }
 {
-    variable.place(places_of(counts)) as usize
+    Counts {
+        params: names.params.get().len() as u8,
+        states: names.states.get().len() as u8,
+        controls: names.controls.get().len() as u8,
+    }
 }
 
-fn places_of(counts: Counts) -> Places
+/// The place of a variable, from 0.
+pub fn place_in(variable: Var, counts: Counts) -> usize
+    ensures { result ≡ place (places_for counts) variable }
+{
+    variable.place(to_places(counts)) as usize
+}
+
+fn to_places(counts: Counts) -> Places
     ensures { result ≡ places_for counts }
 {
     Places {
