@@ -1,0 +1,13 @@
+pub mod Bounding
+pub mod Central
+pub mod Coming
+pub mod Counting
+pub mod Good
+pub mod Hiding
+pub mod Known
+pub mod Listing
+pub mod Meaning
+pub mod Running
+pub mod Standing
+pub mod Truths
+pub mod Walking
