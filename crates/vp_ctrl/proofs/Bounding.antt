@@ -17,7 +17,7 @@ use Rattle.vp_logic.specs.Normal.{IsNormal}
 use Rattle.vp_logic.specs.Tree.{Tree, all_atoms, atoms_of, negated}
 use Rattle.vp_ctrl.specs.declared.path.Path.{Path}
 use Rattle.vp_ctrl.specs.Ways.{Move, Gives, GivesAny, Passes, Fails, Way, joined, ways}
-use Rattle.vp_ctrl.specs.Following.{Condition, Standing, after, after_all, at_first, conditions, equation, is_given_last, stands, tests}
+use Rattle.vp_ctrl.specs.Following.{Condition, StandIns, after, after_all, at_first, conditions, equation, is_given_last, stands, tests}
 use Rattle.vp_ctrl.specs.Paths.{ArePaths, AreParts, EachPathHasFew, IsPart, parts_of}
 
 pub record FewAtoms : Type 0 where
@@ -52,14 +52,14 @@ replaced_size r (And' l f k g) = ap₂ (λ x y. x + y) (replaced_size r f) (repl
 replaced_size r (Or' l f k g) = ap₂ (λ x y. x + y) (replaced_size r f) (replaced_size r g)
 replaced_size r (Not' l f) = replaced_size r f
 
-tests_total : (w : Way) (s : Standing) → total (tests s w) ≡ way_size w
+tests_total : (w : Way) (s : StandIns) → total (tests s w) ≡ way_size w
 tests_total [] s = refl
 tests_total (Gives c e ∷ w) s = tests_total w (after s (Gives c e))
 tests_total (GivesAny c ∷ w) s = tests_total w (after s (GivesAny c))
 tests_total (Passes f ∷ w) s = ap₂ (λ x y. x + y) (replaced_size (stands s) f) (tests_total w s)
 tests_total (Fails f ∷ w) s = ap₂ (λ x y. x + y) (replaced_size (stands s) f) (tests_total w s)
 
-equation_total : (s : Standing) (w : Way) (k : ℕ) → total (equation s w k) ≤ 1
+equation_total : (s : StandIns) (w : Way) (k : ℕ) → total (equation s w k) ≤ 1
 equation_total s w k = cases (is_given_last k false w) refl
   where
     cases : (b : Bool) → is_given_last k false w ≡ b → total (equation s w k) ≤ 1

@@ -27,7 +27,7 @@ use Rattle.vp_ctrl.specs.declared.path.Path.{Path}
 use Rattle.vp_ctrl.specs.Changing.{AgreeFrom, changing}
 use Rattle.vp_ctrl.specs.Ways.{Move, Gives, GivesAny, Passes, Fails, Way, ways}
 use Rattle.vp_ctrl.specs.Hidden.{hidden_on, first_hidden}
-use Rattle.vp_ctrl.specs.Following.{Standing, Condition, after, after_all, at_first, condition_holds, conditions, conditions_hold, equation, instead, is_given_last, of_formula, stands, tests}
+use Rattle.vp_ctrl.specs.Following.{StandIns, Condition, after, after_all, at_first, condition_holds, conditions, conditions_hold, equation, instead, is_given_last, of_formula, stands, tests}
 use Rattle.vp_ctrl.specs.Paths.{IsPart, AreParts, ArePaths, parts_of, some_path_holds}
 use Rattle.vp_ctrl.specs.Walked.{IsGoodWay, AreGoodWays}
 use Rattle.vp_ctrl.specs.Widths.{all_conditions, condition_fits, condition_terms, is_small, ways_are_narrow}
@@ -44,11 +44,11 @@ has_own : Places → Condition → Bool
 has_own p c = all_variables_of (has_variable p) c.formula
 
 -- what controls stand for has variables of the model
-record IsOwn (p : Places) (s : Standing) : Type 0 where
+record IsOwn (p : Places) (s : StandIns) : Type 0 where
   each : (k : ℕ) → k < p.controls → IsTrue (all_variables (has_variable p) (s k))
 
 module _ (meant : Meant) (p : Places) where
-  own_stands : (s : Standing) → IsOwn p s → (v : Var) → IsTrue (has_variable p v) → IsTrue (all_variables (has_variable p) (stands s v))
+  own_stands : (s : StandIns) → IsOwn p s → (v : Var) → IsTrue (has_variable p v) → IsTrue (all_variables (has_variable p) (stands s v))
   own_stands s o (Param i) h = h
   own_stands s o (State i) h = h
   own_stands s o (Control i) h = o.each i (truths.below i p.controls h)
@@ -56,28 +56,28 @@ module _ (meant : Meant) (p : Places) where
   own_stands s o (NextControl i) h = h
   own_stands s o Tau h = refl
 
-  own_side : (s : Standing) (e : Expr) → IsOwn p s → IsTrue (is_good_expr in_model p e) → IsTrue (all_variables (has_variable p) (replaced (stands s) e))
+  own_side : (s : StandIns) (e : Expr) → IsOwn p s → IsTrue (is_good_expr in_model p e) → IsTrue (all_variables (has_variable p) (replaced (stands s) e))
   own_side s e o g = meant.composes.variables (has_variable p) (has_variable p) (stands s) e (own_stands s o) (path_in_model p e (path_variables p e g))
 
-  own_test : (s : Standing) (f : Formula) (d : Bool) → IsOwn p s → IsTrue (is_good_formula in_model p f) → IsTrue (has_own p (of_formula s f d))
+  own_test : (s : StandIns) (f : Formula) (d : Bool) → IsOwn p s → IsTrue (is_good_formula in_model p f) → IsTrue (has_own p (of_formula s f d))
   unfolding has_own
   own_test s f d o g = meant.composes.formula_variables (has_variable p) (has_variable p) (stands s) f (own_stands s o) (path_in_model_of p f (path_variables_of p f g))
 
-  own_instead : (s : Standing) (c : ℕ) (e : Expr) → IsOwn p s → IsTrue (all_variables (has_variable p) e) → IsOwn p (instead s c e)
+  own_instead : (s : StandIns) (c : ℕ) (e : Expr) → IsOwn p s → IsTrue (all_variables (has_variable p) e) → IsOwn p (instead s c e)
   own_instead s c e o h = record { each = λ k l. cases k l (c == k) refl }
     where
       cases : (k : ℕ) → k < p.controls → (b : Bool) → (c == k) ≡ b → IsTrue (all_variables (has_variable p) (instead s c e k))
       cases k l true r = rw r h
       cases k l false r = rw r (o.each k l)
 
-  own_tests : (w : Way) (s : Standing) → IsGoodWay p w → IsOwn p s → IsTrue (list_all (has_own p) (tests s w)) × IsOwn p (after_all s w)
+  own_tests : (w : Way) (s : StandIns) → IsGoodWay p w → IsOwn p s → IsTrue (list_all (has_own p) (tests s w)) × IsOwn p (after_all s w)
   own_tests [] s g o = (refl, o)
   own_tests (Gives c e ∷ w) s g o = own_tests w (after s (Gives c e)) g.1 (own_instead s c (replaced (stands s) e) o (own_side s e o g.0.1))
   own_tests (GivesAny c ∷ w) s g o = own_tests w (after s (GivesAny c)) g.1 (own_instead s c (Variable (NextControl c)) o (truths.is_below c p.controls g.0))
   own_tests (Passes f ∷ w) s g o = let r = own_tests w s g.1 o in (truths.both_true _ _ (own_test s f false o g.0) r.0, r.1)
   own_tests (Fails f ∷ w) s g o = let r = own_tests w s g.1 o in (truths.both_true _ _ (own_test s f true o g.0) r.0, r.1)
 
-  own_equation : (s : Standing) (w : Way) (k : ℕ) → k < p.controls → IsOwn p s → IsTrue (list_all (has_own p) (equation s w k))
+  own_equation : (s : StandIns) (w : Way) (k : ℕ) → k < p.controls → IsOwn p s → IsTrue (list_all (has_own p) (equation s w k))
   unfolding has_own
   own_equation s w k l o = cases (is_given_last k false w) refl
     where

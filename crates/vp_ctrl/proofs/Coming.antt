@@ -25,7 +25,7 @@ use Rattle.vp_logic.specs.Sized.{IsSized, TreeHasOnly}
 use Rattle.vp_logic.specs.Narrow.{comparisons_fit, terms_of, is_narrow}
 use Rattle.vp_logic.specs.Normal.{IsNormal}
 use Rattle.vp_ctrl.specs.declared.walk.Walk.{Walk}
-use Rattle.vp_ctrl.specs.Following.{Standing, Condition, instead, stands, of_formula}
+use Rattle.vp_ctrl.specs.Following.{StandIns, Condition, instead, stands, of_formula}
 use Rattle.vp_ctrl.specs.Widths.{is_small, condition_fits, condition_terms}
 use Rattle.vp_ctrl.specs.Paths.{AllowsPaths, IsPart, is_on_path}
 use Rattle.vp_ctrl.specs.Walked.{AreNarrow, Follows, HasCome}
@@ -36,7 +36,7 @@ use Rattle.vp_ctrl.proofs.Walking.{narrow_side, wide_side, narrow_condition, man
 
 -- ---- the environment
 
-module _ (p : Places) (env : List Scaled) (s : Standing) (h : Follows p env s) where
+module _ (p : Places) (env : List Scaled) (s : StandIns) (h : Follows p env s) where
   side_fits : WeightsCompose → (e : Expr) → IsTrue (all_variables (has_variable p) e) → fits (weight_in p (weights_of env) e) ≡ is_small p (replaced (stands s) e)
   side_fits law e v = ap fits (weight_stands law p env s h e v)
 
@@ -84,7 +84,7 @@ module _ (p : Places) (env : List Scaled) (s : Standing) (h : Follows p env s) w
 
 -- ---- walks
 
-module _ (p : Places) (walk new : Walk) (s : Standing) (rs : List Expr) (cs : List Condition) (h : HasCome p walk s rs cs) where
+module _ (p : Places) (walk new : Walk) (s : StandIns) (rs : List Expr) (cs : List Condition) (h : HasCome p walk s rs cs) where
   pub put_come : Placed → WeightsCompose → CoefficientsCompose → (c : ℕ) (e : Expr) (x : Scaled) → c < p.controls → IsTrue (all_variables (is_on_path p) e) → x.weight ≡ weight_in p (weights_of walk.env.items) e → fits (weight_in p (weights_of walk.env.items) e) ≡ true → AreBelow (place_count p) x.poly → IsWeighed x.poly x.weight → ((f : Var → Coefficients) → StandsFor p walk.env.items f → IsCanonical x.weight.den x.poly (coefficients f e)) → ((used : Var → Bool) (allowed : ℕ → Bool) → IsTrue (all_variables used e) → StandsWithin p walk.env.items used allowed → HaveOnly allowed x.poly) → new.env.items ≡ slice_set walk.env.items (place p (Control c)) x → new.parts ≡ walk.parts → new.terms ≡ walk.terms → HasCome p new (instead s c (replaced (stands s) e)) (rs ++ replaced (stands s) e ∷ []) cs
   put_come placed weigh compose c e x lt u w g b i k o q r t =
       let v = path_in_model p e u in record {
@@ -129,7 +129,7 @@ pub on_ok : {A E : Type 0} (r : Result A E) (P Q : Type 0) → (P → Q) → OnO
 on_ok (Ok x) P Q f h = f h
 on_ok (Err e) P Q f h = h
 
-pub any_come : (p : Places) (walk new : Walk) (s : Standing) (rs : List Expr) (cs : List Condition) (c : ℕ) → HasCome p walk s rs cs → HasCome p new (instead s c (Variable (NextControl c))) (rs ++ Variable (NextControl c) ∷ []) cs → HasCome p new (instead s c (Variable (NextControl c))) (rs ++ []) (cs ++ [])
+pub any_come : (p : Places) (walk new : Walk) (s : StandIns) (rs : List Expr) (cs : List Condition) (c : ℕ) → HasCome p walk s rs cs → HasCome p new (instead s c (Variable (NextControl c))) (rs ++ Variable (NextControl c) ∷ []) cs → HasCome p new (instead s c (Variable (NextControl c))) (rs ++ []) (cs ++ [])
 any_come p walk new s rs cs c h k =
     rw (append-nil rs, append-nil cs) (record { follows = k.follows; parts = k.parts; narrow = h.narrow; terms = k.terms })
 

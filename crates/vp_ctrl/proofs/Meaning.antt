@@ -20,7 +20,7 @@ use Rattle.vp_poly.specs.Replaced.{replaced, formula_replaced}
 use Rattle.vp_ctrl.specs.Changing.{AgreeFrom, changing}
 use Rattle.vp_ctrl.specs.Ways.{Move, Gives, GivesAny, Passes, Fails, Way}
 use Rattle.vp_ctrl.specs.Hidden.{gives_any, is_given, changed_again, or_next, again, hidden_on}
-use Rattle.vp_ctrl.specs.Following.{Standing, at_first, instead, stands, after, after_all, tests, given_last, is_given_last, equation, conditions, condition_holds, conditions_hold}
+use Rattle.vp_ctrl.specs.Following.{StandIns, at_first, instead, stands, after, after_all, tests, given_last, is_given_last, equation, conditions, condition_holds, conditions_hold}
 use Rattle.vp_ctrl.specs.Walked.{IsGoodWay}
 use Rattle.vp_ctrl.proofs.Known.{Meant}
 use Rattle.vp_ctrl.proofs.Running.{Runs}
@@ -117,11 +117,11 @@ keeps_value (Fails f ∷ w) b c p x u v g n h = keeps_value w (b ++ Fails f ∷ 
 
 module _ (meant : Meant) (places : Places) (p x u v later : Values) (time : Rational) (agree : AgreeFrom places.controls u v) where
   -- what each control stands for has the value that the control has now
-  pub record Agrees (s : Standing) (w : Values) : Type 0 where
+  pub record Agrees (s : StandIns) (w : Values) : Type 0 where
     pub known : (k : ℕ) → k < places.controls → Equals (value (s k) (changing p x u v time later)) (w k)
     pub others : (k : ℕ) → places.controls ≤ k → Equals (w k) (v k)
 
-  module _ (s : Standing) (w : Values) (h : Agrees s w) where
+  module _ (s : StandIns) (w : Values) (h : Agrees s w) where
     agree_at : (i : Var) → IsTrue (is_allowed in_model places i) → Equals (value (stands s i) (changing p x u v time later)) (assigned p x w i)
     agree_at (Param i) b = Equals-refl (p i)
     agree_at (State i) b = Equals-refl (x i)
@@ -166,28 +166,28 @@ module _ (meant : Meant) (places : Places) (p x u v later : Values) (time : Rati
   -- ---- where the conditions hold, the way leads there
 
   -- the flags say which controls `:= *` gave last: they stand for their next values
-  pub record Flags (s : Standing) (g : ℕ → Bool) : Type 0 where
+  pub record Flags (s : StandIns) (g : ℕ → Bool) : Type 0 where
     pub given : (k : ℕ) → k < places.controls → g k ≡ true → Equals (value (s k) (changing p x u v time later)) (v k)
 
   -- the equations at the end
-  abbrev pub Ends : Standing → (ℕ → Bool) → Way → Type 0
+  abbrev pub Ends : StandIns → (ℕ → Bool) → Way → Type 0
   Ends s g w = (k : ℕ) → k < places.controls → is_given_last k (g k) w ≡ false → Equals (v k) (value (after_all s w k) (changing p x u v time later))
 
-  flags_set : (s : Standing) (g : ℕ → Bool) (c : ℕ) (e e' : Expr) → Flags s g → Flags (instead s c e) (λ k. given_last k (g k) (Gives c e'))
+  flags_set : (s : StandIns) (g : ℕ → Bool) (c : ℕ) (e e' : Expr) → Flags s g → Flags (instead s c e) (λ k. given_last k (g k) (Gives c e'))
   flags_set s g c e e' f = record { given = λ k le y. cases k le (c == k) refl y }
     where
       cases : (k : ℕ) → k < places.controls → (t : Bool) → (c == k) ≡ t → given_last k (g k) (Gives c e') ≡ true → Equals (value (instead s c e k) (changing p x u v time later)) (v k)
       cases k le true r y = absurd (let z = rw r at y in cc)
       cases k le false r y = rw r (f.given k le (rw r at y))
 
-  flags_given : (s : Standing) (g : ℕ → Bool) (c : ℕ) → Flags s g → Flags (instead s c (Variable (NextControl c))) (λ k. given_last k (g k) (GivesAny c))
+  flags_given : (s : StandIns) (g : ℕ → Bool) (c : ℕ) → Flags s g → Flags (instead s c (Variable (NextControl c))) (λ k. given_last k (g k) (GivesAny c))
   flags_given s g c f = record { given = λ k le y. cases k le (c == k) refl y }
     where
       cases : (k : ℕ) → k < places.controls → (t : Bool) → (c == k) ≡ t → given_last k (g k) (GivesAny c) ≡ true → Equals (value (instead s c (Variable (NextControl c)) k) (changing p x u v time later)) (v k)
       cases k le true r y = let z = is_same c k r in rw (r, z) (Equals-refl (v k))
       cases k le false r y = rw r (f.given k le (rw r at y))
 
-  pub led : (w : Way) (s : Standing) (g : ℕ → Bool) (t : Values) → IsGoodWay places w → Agrees s t → Flags s g → IsTrue (conditions_hold (tests s w) (changing p x u v time later)) → Ends s g w → Runs w p x t v
+  pub led : (w : Way) (s : StandIns) (g : ℕ → Bool) (t : Values) → IsGoodWay places w → Agrees s t → Flags s g → IsTrue (conditions_hold (tests s w) (changing p x u v time later)) → Ends s g w → Runs w p x t v
   led [] s g t ok h f y e = record { each = λ k. cases k (below_or_not k places.controls) }
     where
       known : (k : ℕ) → k < places.controls → (b : Bool) → g k ≡ b → Equals (t k) (v k)
@@ -225,7 +225,7 @@ module _ (meant : Meant) (places : Places) (p x u v later : Values) (time : Rati
 
   -- ---- where a way leads there, its conditions hold
 
-  pub tested : (w b : Way) (s : Standing) (t : Values) → IsGoodWay places w → again b w ≡ None → Agrees s t → Runs w p x t v → IsTrue (conditions_hold (tests s w) (changing p x u v time later)) × Agrees (after_all s w) v
+  pub tested : (w b : Way) (s : StandIns) (t : Values) → IsGoodWay places w → again b w ≡ None → Agrees s t → Runs w p x t v → IsTrue (conditions_hold (tests s w) (changing p x u v time later)) × Agrees (after_all s w) v
   tested [] b s t ok n h r = (
     refl,
     record { known = λ k lt. chain (h.known k lt) (r.each k); others = λ k le. Equals-refl (v k) },
@@ -253,12 +253,12 @@ module _ (meant : Meant) (places : Places) (p x u v later : Values) (time : Rati
   no_flags = record { given = λ k lt y. absurd (cc) }
 
   -- an equation says that the values are equal
-  equation_says : (s : Standing) (w : Way) (k : ℕ) → is_given_last k false w ≡ false → IsTrue (conditions_hold (equation s w k) (changing p x u v time later)) → Equals (changing p x u v time later (NextControl k)) (value (s k) (changing p x u v time later))
+  equation_says : (s : StandIns) (w : Way) (k : ℕ) → is_given_last k false w ≡ false → IsTrue (conditions_hold (equation s w k) (changing p x u v time later)) → Equals (changing p x u v time later (NextControl k)) (value (s k) (changing p x u v time later))
   equation_says s w k r h =
       let z = rw r at h in
       are_equal _ _ (both _ _ z).0
 
-  equation_holds : (s : Standing) (w : Way) (k : ℕ) → k < places.controls → Equals (value (s k) (changing p x u v time later)) (v k) → IsTrue (conditions_hold (equation s w k) (changing p x u v time later))
+  equation_holds : (s : StandIns) (w : Way) (k : ℕ) → k < places.controls → Equals (value (s k) (changing p x u v time later)) (v k) → IsTrue (conditions_hold (equation s w k) (changing p x u v time later))
   equation_holds s w k lt e = cases (is_given_last k false w) refl
     where
       cases : (b : Bool) → is_given_last k false w ≡ b → IsTrue (conditions_hold (equation s w k) (changing p x u v time later))

@@ -20,7 +20,7 @@ use Rattle.vp_poly.specs.Times.{HasCoefficients}
 use Rattle.vp_poly.specs.Weights.{Weights, weight, weight_at, weight_in, weight_sum, weight_product, weight_power, weight_zero}
 use Rattle.vp_poly.specs.Canonical.{IsEntry, IsEnvironment, StandsFor, StandsWithin, itself, own_weights, variables, weights_of}
 use Rattle.vp_poly.specs.Replaced.{replaced}
-use Rattle.vp_ctrl.specs.Following.{Standing, at_first, instead, stands}
+use Rattle.vp_ctrl.specs.Following.{StandIns, at_first, instead, stands}
 use Rattle.vp_ctrl.specs.Paths.{AllowsPaths, is_on_path}
 use Rattle.vp_ctrl.specs.Widths.{is_small}
 use Rattle.vp_ctrl.specs.Walked.{Follows}
@@ -88,7 +88,7 @@ weight_over t f g same (Mul' l e r d) h = let s = truths.both _ _ h in ap₂ wei
 weight_over t f g same (Pow' l e n) h = ap (λ (v : Weights). weight_power v n) (weight_over t f g same e h)
 
 -- the weight of an expression over what its variables stand for
-pub weight_stands : WeightsCompose → (p : Places) (env : List Scaled) (s : Standing) → Follows p env s → (e : Expr) → IsTrue (all_variables (has_variable p) e) → weight_in p (weights_of env) e ≡ weight_in p (own_weights (place_count p)) (replaced (stands s) e)
+pub weight_stands : WeightsCompose → (p : Places) (env : List Scaled) (s : StandIns) → Follows p env s → (e : Expr) → IsTrue (all_variables (has_variable p) e) → weight_in p (weights_of env) e ≡ weight_in p (own_weights (place_count p)) (replaced (stands s) e)
 weight_stands law p env s h e v =
     weight_over (has_variable p) (weight_at p (weights_of env)) (λ k. weight (weight_at p (own_weights (place_count p))) (stands s k)) h.weights e v
     ∙ sym (law (weight_at p (own_weights (place_count p))) (stands s) e)
@@ -154,7 +154,7 @@ IsEnvironment-set n i env s h k = record { size = length-set env i s ∙ h.size;
     All_set : (P : Scaled → Type 0) (xs : List Scaled) (i : ℕ) (x : Scaled) → All P xs → P x → All P (slice_set xs i x)
     All_set P xs i x h k = search rules
 
-module _ (placed : Placed) (p : Places) (env : List Scaled) (s : Standing) (c : ℕ) (e : Expr) (new : Scaled) (f : Follows p env s) (lt : c < p.controls) where
+module _ (placed : Placed) (p : Places) (env : List Scaled) (s : StandIns) (c : ℕ) (e : Expr) (new : Scaled) (f : Follows p env s) (lt : c < p.controls) where
   inside : place p (Control c) < length env
   inside = let b = placed.in_range p (Control c) (is_variable p c lt) in omega (arith, f.environment.size)
 

@@ -18,7 +18,7 @@ use Rattle.vp_ctrl.specs.declared.path.Path.{Path}
 use Rattle.vp_ctrl.specs.declared.walk.Walk.{Walk}
 use Rattle.vp_ctrl.specs.Steps.{move, moves, listed}
 use Rattle.vp_ctrl.specs.Ways.{Move, Way}
-use Rattle.vp_ctrl.specs.Following.{Standing, at_first, after, after_all, Condition, right_side, right_sides, test, tests, equation, conditions}
+use Rattle.vp_ctrl.specs.Following.{StandIns, at_first, after, after_all, Condition, right_side, right_sides, test, tests, equation, conditions}
 use Rattle.vp_ctrl.specs.Widths.{is_small, condition_fits, condition_terms, are_narrow, all_right_sides, all_conditions}
 use Rattle.vp_ctrl.specs.Paths.{AllowsPaths, IsPart, AreParts, ArePaths, EachPathHasOnly, EachPathIsSized, parts_of}
 use Rattle.vp_ctrl.specs.Walked.{AreNarrow, WaysAreNarrow, HasParts, HasCome, HaveCome}
@@ -130,22 +130,22 @@ module _ (p : Places) where
 
 -- ---- one more move
 
-pub after-more : (w : Way) (s : Standing) (m : Move) → after_all s (w ++ m ∷ []) ≡ after (after_all s w) m
+pub after-more : (w : Way) (s : StandIns) (m : Move) → after_all s (w ++ m ∷ []) ≡ after (after_all s w) m
 after-more [] s m = refl
 after-more (n ∷ w) s m = after-more w (after s n) m
 
-pub sides-both : (w v : Way) (s : Standing) → right_sides s (w ++ v) ≡ right_sides s w ++ right_sides (after_all s w) v
+pub sides-both : (w v : Way) (s : StandIns) → right_sides s (w ++ v) ≡ right_sides s w ++ right_sides (after_all s w) v
 sides-both [] v s = refl
 sides-both (n ∷ w) v s = ap (λ (l : List Expr). right_side s n ++ l) (sides-both w v (after s n)) ∙ sym (append_assoc (right_side s n) (right_sides (after s n) w) (right_sides (after_all (after s n) w) v))
 
-pub tests-both : (w v : Way) (s : Standing) → tests s (w ++ v) ≡ tests s w ++ tests (after_all s w) v
+pub tests-both : (w v : Way) (s : StandIns) → tests s (w ++ v) ≡ tests s w ++ tests (after_all s w) v
 tests-both [] v s = refl
 tests-both (n ∷ w) v s = ap (λ (l : List Condition). test s n ++ l) (tests-both w v (after s n)) ∙ sym (append_assoc (test s n) (tests (after s n) w) (tests (after_all (after s n) w) v))
 
-pub sides-more : (w : Way) (s : Standing) (m : Move) → right_sides s (w ++ m ∷ []) ≡ right_sides s w ++ right_side (after_all s w) m
+pub sides-more : (w : Way) (s : StandIns) (m : Move) → right_sides s (w ++ m ∷ []) ≡ right_sides s w ++ right_side (after_all s w) m
 sides-more w s m = sides-both w (m ∷ []) s ∙ ap (λ (l : List Expr). right_sides s w ++ l) (append-nil (right_side (after_all s w) m))
 
-pub tests-more : (w : Way) (s : Standing) (m : Move) → tests s (w ++ m ∷ []) ≡ tests s w ++ test (after_all s w) m
+pub tests-more : (w : Way) (s : StandIns) (m : Move) → tests s (w ++ m ∷ []) ≡ tests s w ++ test (after_all s w) m
 tests-more w s m = tests-both w (m ∷ []) s ∙ ap (λ (l : List Condition). tests s w ++ l) (append-nil (test (after_all s w) m))
 
 -- a list is its front and its rest

@@ -13,19 +13,19 @@ use Rattle.vp_poly.specs.Replaced.{replaced, formula_replaced}
 use Rattle.vp_ctrl.specs.Ways.{Move, Gives, GivesAny, Passes, Fails, Way}
 
 -- the expression that each control stands for
-abbrev pub Standing : Type 0
-Standing = ℕ → Expr
+abbrev pub StandIns : Type 0
+StandIns = ℕ → Expr
 
 -- at first each control stands for itself
-abbrev pub at_first : Standing
+abbrev pub at_first : StandIns
 at_first k = Variable (Control k)
 
 -- then c stands for e
-abbrev pub instead : Standing → ℕ → Expr → Standing
+abbrev pub instead : StandIns → ℕ → Expr → StandIns
 instead s c e k = if c == k then e else s k
 
 -- what each variable stands for: all but controls stand for themselves
-abbrev pub stands : Standing → Var → Expr
+abbrev pub stands : StandIns → Var → Expr
 stands s (Param i) = Variable (Param i)
 stands s (State i) = Variable (State i)
 stands s (Control i) = s i
@@ -34,13 +34,14 @@ stands s (NextControl i) = Variable (NextControl i)
 stands s Tau = Variable Tau
 
 -- an assignment puts its right side, with all controls replaced, and `:= *` the next value
-abbrev pub after : Standing → Move → Standing
+abbrev pub after : StandIns → Move → StandIns
 after s (Gives c e) = instead s c (replaced (stands s) e)
 after s (GivesAny c) = instead s c (Variable (NextControl c))
 after s (Passes f) = s
 after s (Fails f) = s
 
-abbrev pub after_all : Standing → Way → Standing
+-- and behind all moves of a way
+abbrev pub after_all : StandIns → Way → StandIns
 after_all s [] = s
 after_all s (m ∷ w) = after_all (after s m) w
 
@@ -50,28 +51,30 @@ pub record Condition : Type 0 where
   pub denied : Bool
 
 -- the formula, with all controls replaced
-abbrev pub of_formula : Standing → Formula → Bool → Condition
+abbrev pub of_formula : StandIns → Formula → Bool → Condition
 of_formula s f denied = record { formula = formula_replaced (stands s) f; denied = denied }
 
 -- the right side that a move assigns, with all controls replaced
-abbrev pub right_side : Standing → Move → List Expr
+abbrev pub right_side : StandIns → Move → List Expr
 right_side s (Gives c e) = replaced (stands s) e ∷ []
 right_side s (GivesAny c) = []
 right_side s (Passes f) = []
 right_side s (Fails f) = []
 
-abbrev pub right_sides : Standing → Way → List Expr
+-- those of all moves of a way
+abbrev pub right_sides : StandIns → Way → List Expr
 right_sides s [] = []
 right_sides s (m ∷ w) = right_side s m ++ right_sides (after s m) w
 
 -- the test of a move, with all controls replaced
-abbrev pub test : Standing → Move → List Condition
+abbrev pub test : StandIns → Move → List Condition
 test s (Gives c e) = []
 test s (GivesAny c) = []
 test s (Passes f) = of_formula s f false ∷ []
 test s (Fails f) = of_formula s f true ∷ []
 
-abbrev pub tests : Standing → Way → List Condition
+-- those of all moves of a way
+abbrev pub tests : StandIns → Way → List Condition
 tests s [] = []
 tests s (m ∷ w) = test s m ++ tests (after s m) w
 
@@ -82,16 +85,17 @@ given_last k given (GivesAny c) = if c == k then true else given
 given_last k given (Passes f) = given
 given_last k given (Fails f) = given
 
+-- and behind all moves of a way
 abbrev pub is_given_last : ℕ → Bool → Way → Bool
 is_given_last k given [] = given
 is_given_last k given (m ∷ w) = is_given_last k (given_last k given m) w
 
 -- the control's next value is what it stands for
-abbrev pub equals_next : Standing → ℕ → Condition
+abbrev pub equals_next : StandIns → ℕ → Condition
 equals_next s k = record { formula = Compare cmp.Eq (Variable (NextControl k)) (s k); denied = false }
 
 -- this equation at the end, unless `:= *` gave the control last
-abbrev pub equation : Standing → Way → ℕ → List Condition
+abbrev pub equation : StandIns → Way → ℕ → List Condition
 equation s w k =
     if is_given_last k false w then [] else (equals_next s k ∷ [])
 

@@ -14,13 +14,13 @@ use Rattle.vp_logic.specs.Sized.{EachHasOnly, EachIsSized}
 use Rattle.vp_logic.specs.Tree.{Tree, tree}
 use Rattle.vp_ctrl.specs.declared.walk.Walk.{Walk}
 use Rattle.vp_ctrl.specs.Ways.{Move, Gives, GivesAny, Passes, Fails, Way}
-use Rattle.vp_ctrl.specs.Following.{Standing, Condition, stands}
+use Rattle.vp_ctrl.specs.Following.{StandIns, Condition, stands}
 use Rattle.vp_ctrl.specs.Widths.{all_conditions, all_right_sides, condition_fits, condition_terms, is_small}
 use Rattle.vp_ctrl.specs.Paths.{AllowsPaths, AreParts, ArePaths, EachPathHasOnly, EachPathIsSized, is_on_path}
 use Rattle.vp_ctrl.specs.declared.path.Path.{Path}
 
 -- the polynomials in `env` are those of what each variable of the model stands for
-pub record Follows (p : Places) (env : List Scaled) (s : Standing) : Type 0 where
+pub record Follows (p : Places) (env : List Scaled) (s : StandIns) : Type 0 where
   pub environment : IsEnvironment (place_count p) env
   pub weights : (v : Var) → IsTrue (has_variable p v) → weight_at p (weights_of env) v ≡ weight_in p (own_weights (place_count p)) (stands s v)
   pub stand_for : StandsFor p env (λ v. coefficients (variables p) (stands s v))
@@ -38,11 +38,12 @@ pub record AreNarrow (p : Places) (rs : List Expr) (cs : List Condition) : Type 
   pub fit : list_all (condition_fits p) cs ≡ true
   pub few : sum_by (condition_terms p) cs ≤ 65536
 
+-- and so over all ways
 abbrev pub WaysAreNarrow : Places → List Way → Type 0
 WaysAreNarrow p ws = AreNarrow p (all_right_sides ws) (all_conditions p ws)
 
 -- the walk has come to where controls stand for s, with these right sides and conditions
-pub record HasCome (p : Places) (walk : Walk) (s : Standing) (rs : List Expr) (cs : List Condition) : Type 0 where
+pub record HasCome (p : Places) (walk : Walk) (s : StandIns) (rs : List Expr) (cs : List Condition) : Type 0 where
   pub follows : Follows p walk.env.items s
   pub parts : HasParts p cs (map tree walk.parts.items)
   pub narrow : AreNarrow p rs cs
@@ -55,10 +56,12 @@ IsGoodMove p (GivesAny c) = c < p.controls
 IsGoodMove p (Passes f) = IsTrue (is_good_formula in_model p f)
 IsGoodMove p (Fails f) = IsTrue (is_good_formula in_model p f)
 
+-- and so each of a way
 abbrev pub IsGoodWay : Places → Way → Type 0
 IsGoodWay p [] = Unit {0}
 IsGoodWay p (m ∷ w) = IsGoodMove p m × IsGoodWay p w
 
+-- and so each way of a list
 abbrev pub AreGoodWays : Places → List Way → Type 0
 AreGoodWays p [] = Unit {0}
 AreGoodWays p (w ∷ ws) = IsGoodWay p w × AreGoodWays p ws

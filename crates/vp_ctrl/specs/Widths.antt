@@ -26,10 +26,11 @@ condition_terms p c = terms_of p (own_weights (place_count p)) c.formula
 abbrev pub are_narrow : Places → List Expr → List Condition → Bool
 are_narrow p rs cs = list_all (is_small p) rs && (list_all (condition_fits p) cs && nat_le (sum_by (condition_terms p) cs) 65536)
 
--- the assigned right sides of all ways, and the conditions of all ways
+-- the assigned right sides of all ways
 abbrev pub all_right_sides : List Way → List Expr
 all_right_sides ws = flat_map (right_sides at_first) ws
 
+-- and the conditions of all ways
 abbrev pub all_conditions : Places → List Way → List Condition
 all_conditions p ws = flat_map (conditions p.controls) ws
 

@@ -2,7 +2,7 @@
 ghost use Rattle.std.specs.Prelude.{◌≡◌, ◌↔◌, ◌+◌, ◌*◌, ◌<◌, ◌≤◌, ◌++◌, ◌∷◌, [], ℕ, Bool, OnOk, IfErr, IfOk, IsOk, IsTrue, Err, true, false, None, Some, length, slice_get};
 ghost use Rattle.vp_terms.specs.Control.{Ctrl, Values};
 ghost use Rattle.vp_terms.specs.Rational.{Rational};
-ghost use Rattle.vp_terms.specs.WellFormed.{AreGoodNames, IsWellFormed, places_of, prog_comparisons};
+ghost use Rattle.vp_terms.specs.WellFormed.{IsWellFormed, places_of, prog_comparisons};
 ghost use Rattle.vp_terms.specs.Places.{place_count};
 ghost use Rattle.vp_words.specs.Record.{IsValid};
 ghost use Rattle.vp_poly.specs.Places.{places_for};
@@ -22,7 +22,7 @@ use crate::walk::{MOST_TERMS, Walk, follow};
 use crate::ways::{Step, way_count, ways};
 use std::alloc::{AllocError, Global};
 use vp_logic::Norm;
-use vp_poly::PolyErr;
+use vp_poly::{PolyErr, counts_of};
 use vp_terms::{Items, NameText, Names, Package};
 use vp_words::Counts;
 
@@ -45,6 +45,7 @@ pub enum PathErr {
     /// An assigned right side or a comparison is over, or the comparisons of all paths have more
     /// than 65,536 terms.
     Wide,
+    /// There was too little memory for the paths.
     Memory,
 }
 
@@ -158,17 +159,4 @@ fn name_of(alloc: Global, names: &Names, control: u32) -> Result<NameText, Alloc
 {
     let name = names.controls.get()[control as usize].as_str();
     Ok(NameText::of(name.to_string(alloc)?))
-}
-
-// How many parameters, states and controls there are names for.
-fn counts_of(names: &Names) -> Counts
-    requires { AreGoodNames names.now }
-    ensures same { places_for result ≡ places_of names.now }
-    ensures valid { IsValid result }
-{
-    Counts {
-        params: names.params.get().len() as u8,
-        states: names.states.get().len() as u8,
-        controls: names.controls.get().len() as u8,
-    }
 }

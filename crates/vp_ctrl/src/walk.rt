@@ -1,9 +1,7 @@
 //! A walk along a way through a controller: what the variables stand for, and the parts so far.
 ghost use Rattle.std.specs.Prelude.{◌≡◌, ◌+◌, ◌<◌, ◌≤◌, ◌++◌, ◌∷◌, [], ℕ, Bool, List, IfOk, OnOk, Err, IsTrue, map, true};
-ghost use Rattle.vp_terms.specs.Places.{place};
 ghost use Rattle.vp_terms.specs.Variables.{all_variables, all_variables_of};
 ghost use Rattle.vp_terms.specs.declared.expr.Expr.{Expr};
-ghost use Rattle.vp_terms.specs.declared.expr.Var.TheVariants.{Control};
 ghost use Rattle.vp_words.specs.Record.{IsValid, place_count};
 ghost use Rattle.vp_poly.specs.Canonical.{IsEnvironment};
 ghost use Rattle.vp_poly.specs.Places.{places_for};
@@ -11,7 +9,7 @@ ghost use Rattle.vp_poly.specs.Replaced.{replaced};
 ghost use Rattle.vp_logic.specs.Sized.{IsSized, TreeHasOnly};
 ghost use Rattle.vp_logic.specs.Tree.{tree};
 ghost use Rattle.vp_ctrl.specs.Steps.{move, moves};
-ghost use Rattle.vp_ctrl.specs.Following.{Condition, Standing, after, at_first, after_all, conditions, equation, instead, of_formula, right_side, right_sides, stands, test};
+ghost use Rattle.vp_ctrl.specs.Following.{Condition, StandIns, after, at_first, after_all, conditions, equation, instead, of_formula, right_side, right_sides, stands, test};
 ghost use Rattle.vp_ctrl.specs.Paths.{AllowsPaths, IsPart, is_on_path};
 ghost use Rattle.vp_ctrl.specs.Walked.{AreNarrow, Follows, HasCome, IsGoodMove, IsGoodWay};
 ghost use Rattle.vp_ctrl.specs.Widths.{condition_fits, condition_terms};
@@ -22,9 +20,9 @@ use std::alloc::{AllocError, Global};
 use vp_logic::laws::normal_forms_compose;
 use vp_logic::{Norm, negate, normal, term_count};
 use vp_poly::laws::replacing_composes;
-use vp_poly::{PolyErr, Scaled, of_expr, plain, weights_of};
+use vp_poly::{PolyErr, Scaled, of_expr, place_in, plain, weights_of};
 use vp_terms::laws::places_tell_variables;
-use vp_terms::{Cmp, Expr, Formula, Places, Var};
+use vp_terms::{Cmp, Expr, Formula, Var};
 use vp_words::Counts;
 
 /// The most terms that all comparisons of all paths may have.
@@ -77,10 +75,10 @@ impl Walk {
     fn take(&mut self, alloc: Global, step: &Step, counts: Counts) -> Result<(), PolyErr>
         requires good { IsGoodMove (places_for counts) (move step.now) }
         requires environment { IsEnvironment (place_count counts) self.old.env.items }
-        ensures come { (s : Standing) (rs : List Expr) (cs : List Condition) → HasCome (places_for counts) self.old s rs cs →
+        ensures come { (s : StandIns) (rs : List Expr) (cs : List Condition) → HasCome (places_for counts) self.old s rs cs →
             OnOk result (HasCome (places_for counts) self.new (after s (move step.now))
             (rs ++ right_side s (move step.now)) (cs ++ test s (move step.now))) }
-        ensures wide { (s : Standing) (rs : List Expr) (cs : List Condition) → HasCome (places_for counts) self.old s rs cs →
+        ensures wide { (s : StandIns) (rs : List Expr) (cs : List Condition) → HasCome (places_for counts) self.old s rs cs →
             result ≡ Err PolyErr.Wide → ¬ AreNarrow (places_for counts) (rs ++ right_side s (move step.now)) (cs ++ test s (move step.now)) }
     {
         match step {
@@ -105,16 +103,16 @@ impl Walk {
         requires control { control < counts.controls }
         requires variables { IsTrue (all_variables (is_on_path (places_for counts)) value.now) }
         requires environment { IsEnvironment (place_count counts) self.old.env.items }
-        ensures come { (s : Standing) (rs : List Expr) (cs : List Condition) → HasCome (places_for counts) self.old s rs cs →
+        ensures come { (s : StandIns) (rs : List Expr) (cs : List Condition) → HasCome (places_for counts) self.old s rs cs →
             OnOk result (HasCome (places_for counts) self.new (instead s control (replaced (stands s) value.now))
             (rs ++ replaced (stands s) value.now ∷ []) cs) }
-        ensures wide { (s : Standing) (rs : List Expr) (cs : List Condition) → HasCome (places_for counts) self.old s rs cs →
+        ensures wide { (s : StandIns) (rs : List Expr) (cs : List Condition) → HasCome (places_for counts) self.old s rs cs →
             result ≡ Err PolyErr.Wide → ¬ AreNarrow (places_for counts) (rs ++ replaced (stands s) value.now ∷ []) cs }
     {
         places_tell_variables();
         replacing_composes();
         let scaled = of_expr(alloc, value, counts, &self.env)?;
-        let place = place_of(control, counts);
+        let place = place_in(Var::Control(control), counts);
         self.env[place] = scaled;
         Ok(())
     }
@@ -129,9 +127,9 @@ impl Walk {
     ) -> Result<(), PolyErr>
         requires variables { IsTrue (all_variables_of (is_on_path (places_for counts)) formula.now) }
         requires environment { IsEnvironment (place_count counts) self.old.env.items }
-        ensures come { (s : Standing) (rs : List Expr) (cs : List Condition) → HasCome (places_for counts) self.old s rs cs →
+        ensures come { (s : StandIns) (rs : List Expr) (cs : List Condition) → HasCome (places_for counts) self.old s rs cs →
             OnOk result (HasCome (places_for counts) self.new s rs (cs ++ of_formula s formula.now denied ∷ [])) }
-        ensures wide { (s : Standing) (rs : List Expr) (cs : List Condition) → HasCome (places_for counts) self.old s rs cs →
+        ensures wide { (s : StandIns) (rs : List Expr) (cs : List Condition) → HasCome (places_for counts) self.old s rs cs →
             result ≡ Err PolyErr.Wide → ¬ AreNarrow (places_for counts) rs (cs ++ of_formula s formula.now denied ∷ []) }
     {
         normal_forms_compose();
@@ -168,9 +166,9 @@ impl Walk {
     ) -> Result<(), PolyErr>
         requires control { control < counts.controls }
         requires environment { IsEnvironment (place_count counts) self.old.env.items }
-        ensures come { (s : Standing) (rs : List Expr) (cs : List Condition) → HasCome (places_for counts) self.old s rs cs →
+        ensures come { (s : StandIns) (rs : List Expr) (cs : List Condition) → HasCome (places_for counts) self.old s rs cs →
             OnOk result (HasCome (places_for counts) self.new s rs (cs ++ equation s (moves way.now) control)) }
-        ensures wide { (s : Standing) (rs : List Expr) (cs : List Condition) → HasCome (places_for counts) self.old s rs cs →
+        ensures wide { (s : StandIns) (rs : List Expr) (cs : List Condition) → HasCome (places_for counts) self.old s rs cs →
             result ≡ Err PolyErr.Wide → ¬ AreNarrow (places_for counts) rs (cs ++ equation s (moves way.now) control) }
     {
         if is_given_last(way, control) {
@@ -192,15 +190,15 @@ fn part(
 ) -> Result<Norm, PolyErr>
     requires variables { IsTrue (all_variables_of (is_on_path (places_for counts)) formula.now) }
     requires environment { IsEnvironment (place_count counts) env.now }
-    ensures form { (s : Standing) → Follows (places_for counts) env.now s →
+    ensures form { (s : StandIns) → Follows (places_for counts) env.now s →
         IfOk result (λ n. IsPart (places_for counts) (of_formula s formula.now denied) (tree n)) }
-    ensures fits { (s : Standing) → Follows (places_for counts) env.now s →
+    ensures fits { (s : StandIns) → Follows (places_for counts) env.now s →
         OnOk result (condition_fits (places_for counts) (of_formula s formula.now denied) ≡ true) }
-    ensures wide { (s : Standing) → Follows (places_for counts) env.now s → result ≡ Err PolyErr.Wide →
+    ensures wide { (s : StandIns) → Follows (places_for counts) env.now s → result ≡ Err PolyErr.Wide →
         condition_fits (places_for counts) (of_formula s formula.now denied) ≡ true →
         65536 < condition_terms (places_for counts) (of_formula s formula.now denied) }
     ensures sized { IfOk result (λ n. IsSized (place_count counts) (tree n)) }
-    ensures only { (s : Standing) → Follows (places_for counts) env.now s → (allowed : ℕ → Bool) →
+    ensures only { (s : StandIns) → Follows (places_for counts) env.now s → (allowed : ℕ → Bool) →
         AllowsPaths (places_for counts) allowed → IfOk result (λ n. TreeHasOnly allowed (tree n)) }
 {
     normal_forms_compose();
@@ -211,16 +209,4 @@ fn part(
     } else {
         Ok(form)
     }
-}
-
-// The place of a control.
-fn place_of(control: u32, counts: Counts) -> usize
-    ensures { result ≡ place (places_for counts) (Control control) }
-{
-    let places = Places {
-        params: u32::from(counts.params),
-        states: u32::from(counts.states),
-        controls: u32::from(counts.controls),
-    };
-    Var::Control(control).place(places) as usize
 }

@@ -48,6 +48,6 @@ returns-clause-come c =
     c.in_ok-scaled.ensures.weighed
     (λ g. i g v)
     o
-    (ap (λ (k : ℕ). slice_set c.args.self.now.env.items k c.in_ok-scaled.scaled) c.place_of-place.ensures)
+    (ap (λ (k : ℕ). slice_set c.args.self.now.env.items k c.in_ok-scaled.scaled) c.place_in-place.ensures)
     refl
     refl
