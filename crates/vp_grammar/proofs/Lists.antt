@@ -2,7 +2,7 @@
 use Rattle.std.proofs.Common.{◌≡◌, ◌≢◌, length, List, [], ◌∷◌, ◌++◌, map, refl, ap, sym, ◌∙◌, append_assoc, subst}
 use Rattle.std.proofs.lemmas.List.{append-nil, map-append, nil_from_length}
 use Rattle.vp_grammar.specs.declared.terminal.Symbol.TheVariants as symbol
-use Rattle.vp_grammar.specs.declared.terminal.Word.{Word}
+use Rattle.vp_lex.specs.declared.word.Word.{Word}
 use Rattle.vp_grammar.specs.declared.terminal.Terminal.{Terminal}
 use Rattle.vp_grammar.specs.declared.terminal.Terminal.TheVariants as terminal
 use Rattle.vp_grammar.specs.declared.fault.ParseErr.{ParseErr}

@@ -3,8 +3,8 @@ use Rattle.std.specs.Prelude.{◌≡◌, ◌<◌, List, [], ◌∷◌}
 use Rattle.vp_terms.specs.declared.formula.Cmp.{Cmp}
 use Rattle.vp_terms.specs.Tree.{FormulaTree, Compares}
 use Rattle.vp_grammar.specs.declared.terminal.Symbol.TheVariants as symbol
-use Rattle.vp_grammar.specs.declared.terminal.Word.{Word}
-use Rattle.vp_grammar.specs.declared.terminal.Word.TheVariants as word
+use Rattle.vp_lex.specs.declared.word.Word.{Word}
+use Rattle.vp_lex.specs.declared.word.Word.TheVariants as word
 use Rattle.vp_grammar.specs.declared.terminal.Terminal.{Terminal}
 use Rattle.vp_grammar.specs.declared.terminal.Terminal.TheVariants as terminal
 use Rattle.vp_grammar.specs.declared.leading.Leading.{Leading}

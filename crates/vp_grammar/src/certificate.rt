@@ -12,8 +12,9 @@ ghost use Rattle.vp_grammar.specs.declared.terminal.Terminal.{Terminal};
 use crate::expression::expression;
 use crate::fault::ParseErr;
 use crate::front::{after_operator, after_symbol, after_word, first, is_only, whole};
-use crate::terminal::{Operator, Symbol, Terminal, Word};
+use crate::terminal::{Operator, Symbol, Terminal};
 use std::alloc::Global;
+use vp_lex::Word;
 use vp_terms::{Cert, CertTerm, Expr, Items, Part};
 
 /// The label in front, and what follows it; beyond 32 bits it is read as the greatest.

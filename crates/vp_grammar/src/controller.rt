@@ -8,8 +8,9 @@ use crate::expression::expression;
 use crate::fault::ParseErr;
 use crate::formula::{disjunction, group};
 use crate::front::{after_operator, after_symbol, after_word, first};
-use crate::terminal::{Operator, Symbol, Terminal, Word};
+use crate::terminal::{Operator, Symbol, Terminal};
 use std::alloc::Global;
+use vp_lex::Word;
 use vp_terms::{Prog, Var};
 
 /// What a statement begins with, and what follows.

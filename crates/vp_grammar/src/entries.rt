@@ -14,8 +14,9 @@ ghost use Rattle.vp_grammar.specs.declared.terminal.Terminal.{Terminal};
 use crate::expression::expression;
 use crate::fault::ParseErr;
 use crate::front::{after_symbol, after_word, first, is_only};
-use crate::terminal::{Span, Symbol, Terminal, Word};
+use crate::terminal::{Span, Symbol, Terminal};
 use std::alloc::Global;
+use vp_lex::Word;
 use vp_terms::{Cmp, Expr, Slack};
 
 /// What stands between a name and its expression.

@@ -12,7 +12,7 @@ ghost use Rattle.vp_grammar.specs.declared.entries.Mark.{Mark};
 ghost use Rattle.vp_grammar.specs.declared.entries.Mark.TheVariants.{Rate, Setting};
 ghost use Rattle.vp_grammar.specs.declared.terminal.Span.{Span};
 ghost use Rattle.vp_grammar.specs.declared.terminal.Terminal.{Terminal};
-ghost use Rattle.vp_grammar.specs.declared.terminal.Word.{Word};
+ghost use Rattle.vp_lex.specs.declared.word.Word.{Word};
 ghost use Rattle.vp_grammar.specs.Entries.{SpellsNames, SpellsEntries, SpellsBounds, SpellsTimes};
 ghost use Rattle.vp_terms.specs.Packages.{slack_tree};
 ghost use Rattle.vp_terms.specs.Certificates.{IsCertificate};

@@ -8,8 +8,9 @@ use crate::expression::expression;
 use crate::fault::ParseErr;
 use crate::front::{after_operator, after_symbol, after_word, is_only, precedence_of};
 use crate::leading::{Leading, after_cmp, leads};
-use crate::terminal::{Operator, Symbol, Terminal, Word};
+use crate::terminal::{Operator, Symbol, Terminal};
 use std::alloc::Global;
+use vp_lex::Word;
 use vp_terms::Formula;
 
 #[cycle(formula)]

@@ -6,7 +6,8 @@ ghost use Rattle.vp_grammar.specs.declared.terminal.Terminal.TheVariants as term
 ghost use Rattle.vp_grammar.specs.declared.terminal.Terminal.{Terminal};
 
 use crate::fault::ParseErr;
-use crate::terminal::{Operator, Symbol, Terminal, Word};
+use crate::terminal::{Operator, Symbol, Terminal};
+use vp_lex::Word;
 use vp_terms::{Ratio, Var};
 
 const LARGEST_EXPONENT: u64 = 12;

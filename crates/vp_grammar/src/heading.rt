@@ -3,7 +3,8 @@ ghost use Rattle.std.specs.Prelude.{Decides};
 ghost use Rattle.vp_grammar.specs.Heading.{SpellsHeading};
 
 use crate::front::{after_word, is_only, whole};
-use crate::terminal::{Symbol, Terminal, Word};
+use crate::terminal::{Symbol, Terminal};
+use vp_lex::Word;
 
 /// Whether the terminals are `package`, a whole and `;`. What the whole is spelled like isn't said.
 pub fn is_heading(terminals: &[Terminal]) -> bool

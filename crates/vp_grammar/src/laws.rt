@@ -12,7 +12,7 @@ ghost use Rattle.vp_grammar.specs.Reads.{Spells};
 ghost use Rattle.vp_grammar.specs.Strays.{first_stray, is_declared};
 ghost use Rattle.vp_grammar.specs.declared.strays.Rule.TheVariants.{Plain};
 ghost use Rattle.vp_grammar.specs.declared.terminal.Terminal.{Terminal};
-ghost use Rattle.vp_grammar.specs.declared.terminal.Word.{Word};
+ghost use Rattle.vp_lex.specs.declared.word.Word.{Word};
 
 /// Terminals are those of at most one expression.
 pub fn one_expression()

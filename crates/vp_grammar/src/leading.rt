@@ -6,7 +6,8 @@ ghost use Rattle.vp_grammar.specs.declared.terminal.Terminal.TheVariants.{Compar
 ghost use Rattle.vp_terms.specs.declared.formula.Cmp.{Cmp};
 
 use crate::front::{after_symbol, first};
-use crate::terminal::{Symbol, Terminal, Word};
+use crate::terminal::{Symbol, Terminal};
+use vp_lex::Word;
 use vp_terms::Cmp;
 
 /// What a literal begins with, and what follows.

@@ -27,4 +27,5 @@ pub use fault::ParseErr;
 pub use formula::{formula_piece, whole_formula};
 pub use heading::is_heading;
 pub use strays::{Rule, first_stray};
-pub use terminal::{Operator, Span, Symbol, Terminal, Word};
+pub use terminal::{Operator, Span, Symbol, Terminal};
+pub use vp_lex::Word;

@@ -2,7 +2,8 @@
 ghost use Rattle.std.specs.Prelude.{◌≡◌, ◌≤◌, ◌<◌, ◌^◌, length};
 ghost use Rattle.vp_grammar.specs.Strays.{first_stray, fits, is_control, is_control_number, is_due, is_known, is_set, is_state_number, kinds_of, set_behind, variable_span};
 
-use crate::terminal::{Span, Symbol, Terminal, Word};
+use crate::terminal::{Span, Symbol, Terminal};
+use vp_lex::Word;
 use vp_terms::{Cmp, Kinds, Places, Var};
 
 /// What may stand in a piece, and what stands behind the names that it sets.

@@ -1,4 +1,5 @@
 //! Terminals: what the tokens of a package's text stand for in the grammar.
+use vp_lex::Word;
 use vp_terms::{Cmp, Ratio, Var};
 
 /// Where a token stands in its text: from the byte `from` up to the byte `to`, which is the first
@@ -7,38 +8,6 @@ use vp_terms::{Cmp, Ratio, Var};
 pub struct Span {
     pub from: u32,
     pub to: u32,
-}
-
-/// A reserved word; `tau` is a variable.
-#[derive(Clone, Copy, Debug, PartialEq, Eq)]
-pub enum Word {
-    Package,
-    Params,
-    States,
-    Controls,
-    Init,
-    Inv,
-    Safe,
-    Ctrl,
-    Time,
-    To,
-    Flow,
-    Slack,
-    From,
-    Domain,
-    Fallback,
-    Cert,
-    Step,
-    Pos,
-    Sum,
-    Eq,
-    Of,
-    Times,
-    Sq,
-    If,
-    Else,
-    True,
-    False,
 }
 
 /// A symbol that is no operator and no comparison.
@@ -92,8 +61,11 @@ pub enum Operator {
 /// What a token stands for.
 #[derive(Clone, Copy, Debug, PartialEq, Eq)]
 pub enum Terminal {
+    /// A reserved word but `tau`, which is a variable.
     Word(Word),
+    /// A symbol that is no operator and no comparison.
     Symbol(Symbol),
+    /// `+`, `-`, `*`, `^`, `&` or `|`
     Operator(Operator),
     /// `<=`, `<`, `>=`, `>`, `=` or `!=`
     Compare(Cmp),

@@ -1,23 +1,39 @@
 -- The reserved words.
-use Rattle.std.specs.Prelude.{ℕ, ◌≡◌, ◌⊎◌, List, [], ◌∷◌, codes}
+use Rattle.std.specs.Prelude.{ℕ, ◌≡◌, List, codes}
+use Rattle.vp_lex.specs.declared.word.Word.{Word}
+use Rattle.vp_lex.specs.declared.word.Word.TheVariants as word
 
--- w is one of the words
-abbrev pub IsOneOf : List ℕ → List (List ℕ) → Type 0
-IsOneOf w [] = ⊥
-IsOneOf w (r ∷ rs) = (w ≡ r) ⊎ IsOneOf w rs
+-- how a reserved word is spelled
+abbrev pub word_text : Word → List ℕ
+word_text word.Package = codes "package"
+word_text word.Params = codes "params"
+word_text word.States = codes "states"
+word_text word.Controls = codes "controls"
+word_text word.Init = codes "init"
+word_text word.Inv = codes "inv"
+word_text word.Safe = codes "safe"
+word_text word.Ctrl = codes "ctrl"
+word_text word.Time = codes "time"
+word_text word.To = codes "to"
+word_text word.Flow = codes "flow"
+word_text word.Slack = codes "slack"
+word_text word.From = codes "from"
+word_text word.Domain = codes "domain"
+word_text word.Fallback = codes "fallback"
+word_text word.Cert = codes "cert"
+word_text word.Step = codes "step"
+word_text word.Pos = codes "pos"
+word_text word.Sum = codes "sum"
+word_text word.Eq = codes "eq"
+word_text word.Of = codes "of"
+word_text word.Times = codes "times"
+word_text word.Sq = codes "sq"
+word_text word.If = codes "if"
+word_text word.Else = codes "else"
+word_text word.True = codes "true"
+word_text word.False = codes "false"
+word_text word.Tau = codes "tau"
 
--- the reserved words of two or three letters
-abbrev pub short_words : List (List ℕ)
-short_words = codes "inv" ∷ codes "to" ∷ codes "pos" ∷ codes "sum" ∷ codes "eq" ∷ codes "of" ∷ codes "sq" ∷ codes "if" ∷ codes "tau" ∷ []
-
--- those of four letters
-abbrev pub middle_words : List (List ℕ)
-middle_words = codes "init" ∷ codes "safe" ∷ codes "ctrl" ∷ codes "time" ∷ codes "flow" ∷ codes "from" ∷ codes "cert" ∷ codes "step" ∷ codes "else" ∷ codes "true" ∷ []
-
--- those of five letters or more
-abbrev pub long_words : List (List ℕ)
-long_words = codes "package" ∷ codes "params" ∷ codes "states" ∷ codes "controls" ∷ codes "slack" ∷ codes "domain" ∷ codes "fallback" ∷ codes "times" ∷ codes "false" ∷ []
-
--- w is a reserved word
+-- the bytes spell a reserved word
 unfoldable pub IsReserved : List ℕ → Type 0
-IsReserved w = IsOneOf w short_words ⊎ (IsOneOf w middle_words ⊎ IsOneOf w long_words)
+IsReserved bytes = (w : Word) × (bytes ≡ word_text w)

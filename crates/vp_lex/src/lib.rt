@@ -4,11 +4,12 @@
 
 mod byte;
 pub mod laws;
-mod reserved;
 mod scan;
 #[cfg(test)]
 mod tests;
 mod token;
+mod word;
 
 pub use scan::tokens;
 pub use token::{LexErr, Token, TokenKind};
+pub use word::Word;

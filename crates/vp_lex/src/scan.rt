@@ -7,8 +7,8 @@ ghost use Rattle.vp_lex.specs.declared.token.TokenKind.TheVariants.{Number, Symb
 use crate::byte::{
     comment_end, digits_end, is_digit, is_letter, is_pair, is_space, is_symbol, word_len,
 };
-use crate::reserved::is_reserved;
 use crate::token::{LexErr, Token, TokenKind};
+use crate::word::is_reserved;
 use std::alloc::Global;
 
 /// The token in front that begins with a letter.

@@ -22,8 +22,8 @@ use Rattle.vp_grammar.specs.declared.entries.Mark.TheVariants.{Rate, Setting}
 use Rattle.vp_grammar.specs.declared.strays.Rule.{Rule}
 use Rattle.vp_grammar.specs.declared.strays.Rule.TheVariants.{Plain, Controller, Flow, Slack, Fallback}
 use Rattle.vp_grammar.specs.declared.terminal.Span.{Span}
-use Rattle.vp_grammar.specs.declared.terminal.Word.{Word}
-use Rattle.vp_grammar.specs.declared.terminal.Word.TheVariants as word
+use Rattle.vp_lex.specs.declared.word.Word.{Word}
+use Rattle.vp_lex.specs.declared.word.Word.TheVariants as word
 use Rattle.vp_grammar.specs.declared.terminal.Terminal.{Terminal}
 use Rattle.vp_grammar.specs.Certificates.{SpellsCert}
 use Rattle.vp_terms.specs.Packages.{cert_tree}

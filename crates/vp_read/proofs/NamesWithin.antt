@@ -3,7 +3,7 @@ use Rattle.std.proofs.Common.{Vec, Global, ℕ, ◌-◌, List, [], ◌∷◌, ma
 use Rattle.std.proofs.lemmas.List.Elements.{All-head, All-tail, All-cons, All-nil, All-map}
 use Rattle.vp_terms.specs.declared.expr.Var.{Var}
 use Rattle.vp_grammar.specs.declared.terminal.Span.{Span}
-use Rattle.vp_grammar.specs.declared.terminal.Word.{Word}
+use Rattle.vp_lex.specs.declared.word.Word.{Word}
 use Rattle.vp_grammar.specs.declared.terminal.Symbol.TheVariants as symbol
 use Rattle.vp_grammar.specs.declared.terminal.Terminal.{Terminal}
 use Rattle.vp_grammar.specs.declared.terminal.Terminal.TheVariants as terminal

@@ -13,9 +13,9 @@ use Rattle.vp_read.specs.Pieces.{is_deep}
 use Rattle.vp_read.specs.Reading.{IsPart, IsReadOnce, RefusesPart, certificates}
 use Rattle.vp_read.specs.Spelling.{AreTerminals, IsFirstBad, span_text}
 use Rattle.vp_read.proofs.OneReading.{faults_alike, no_fault}
-use Rattle.vp_read.proofs.OneTerminal.{NumbersAreOne, bad_stands_not, one_bad, one_terminals}
+use Rattle.vp_read.proofs.OneTerminal.{TextsTell, bad_stands_not, one_bad, one_terminals}
 
-module _ {T : Type 0} (Form : List Terminal → T → Type 0) (text : List ℕ) (tokens : List Token) (names : Names) (numbers : NumbersAreOne) (one : (ts : List Terminal) (t u : T) → Form ts t → Form ts u → t ≡ u) where
+module _ {T : Type 0} (Form : List Terminal → T → Type 0) (text : List ℕ) (tokens : List Token) (names : Names) (texts : TextsTell) (one : (ts : List Terminal) (t u : T) → Form ts t → Form ts u → t ≡ u) where
   abbrev ours : List Terminal → List Terminal
   ours ts = map (known text names) ts
 
@@ -54,7 +54,7 @@ module _ {T : Type 0} (Form : List Terminal → T → Type 0) (text : List ℕ) 
   comes_once r s (inl a) (inl b) = a.2 ∙ ap (λ (n : ℕ). Err (fault.Number n)) (one_bad text tokens a.0 b.0 a.1 b.1) ∙ sym b.2
   comes_once r s (inl a) (inr b) = absurd (bad_stands_not text tokens b.0 a.0 a.1 b.1)
   comes_once r s (inr a) (inl b) = absurd (bad_stands_not text tokens a.0 b.0 b.1 a.1)
-  comes_once r s (inr a) (inr b) = stands_once b.0 r s (subst (λ (ts : List Terminal). Stands ts r) (one_terminals numbers text tokens a.0 b.0 a.1 b.1) a.2) b.2
+  comes_once r s (inr a) (inr b) = stands_once b.0 r s (subst (λ (ts : List Terminal). Stands ts r) (one_terminals texts text tokens a.0 b.0 a.1 b.1) a.2) b.2
 
   part_comes : (t : T) → IsPart Form text tokens names t → Comes (Ok tt)
   part_comes t h = inr (h.terminals, h.stand, inr (h.shallow, inr ((t, h.form), rw h.declared refl)))
@@ -77,5 +77,5 @@ module _ {T : Type 0} (Form : List Terminal → T → Type 0) (text : List ℕ) 
   read_once = record {
     refused = λ e f a b m n. faults_alike e f (Err e) (Err f) (comes_once (Err e) (Err f) (refusal_comes e a m) (refusal_comes f b n)) refl refl;
     apart = λ t e a b m. no_fault e (Ok tt) (Err e) (comes_once (Ok tt) (Err e) (part_comes t a) (refusal_comes e b m)) refl refl;
-    alike = λ t u a b. one (ours b.terminals) t u (subst (λ (ts : List Terminal). Form (ours ts) t) (one_terminals numbers text tokens a.terminals b.terminals a.stand b.stand) a.form) b.form;
+    alike = λ t u a b. one (ours b.terminals) t u (subst (λ (ts : List Terminal). Form (ours ts) t) (one_terminals texts text tokens a.terminals b.terminals a.stand b.stand) a.form) b.form;
   }

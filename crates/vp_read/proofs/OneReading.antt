@@ -10,8 +10,8 @@ use Rattle.vp_terms.specs.WellFormed.{all_names, places_of}
 use Rattle.vp_lex.specs.declared.token.Token.{Token}
 use Rattle.vp_lex.specs.Tokens.{Tokenizes}
 use Rattle.vp_grammar.specs.declared.terminal.Span.{Span}
-use Rattle.vp_grammar.specs.declared.terminal.Word.{Word}
-use Rattle.vp_grammar.specs.declared.terminal.Word.TheVariants as word
+use Rattle.vp_lex.specs.declared.word.Word.{Word}
+use Rattle.vp_lex.specs.declared.word.Word.TheVariants as word
 use Rattle.vp_grammar.specs.declared.terminal.Terminal.{Terminal}
 use Rattle.vp_grammar.specs.declared.entries.Mark.{Mark}
 use Rattle.vp_grammar.specs.declared.entries.Mark.TheVariants as mark
@@ -29,12 +29,12 @@ use Rattle.vp_read.specs.Reading.{IsCut, IsDraft, IsPackage, IsUnformed, Refuses
 use Rattle.vp_read.specs.Sections.{AreCerts, Declares, Describes, HasForm, IsFirstNoCert, IsFirstUnformed, IsUnformedBody, IsUnformedHead, Section, body_sections, head_sections, known_pieces, spelled}
 use Rattle.vp_read.specs.Naming.{first_again}
 use Rattle.vp_read.specs.Spelling.{AreTerminals, IsFirstBad, span_text}
-use Rattle.vp_read.proofs.OneTerminal.{NumbersAreOne, bad_stands_not, one_bad, one_terminals}
+use Rattle.vp_read.proofs.OneTerminal.{TextsTell, bad_stands_not, one_bad, one_terminals}
 
 -- what the laws say: a text has one list of tokens and writes one number, and terminals spell one tree of a kind
 pub record OneForms : Type 0 where
   pub tokens : (text : List ℕ) (r s : Result (List Token) ℕ) → Tokenizes text r → Tokenizes text s → r ≡ s
-  pub numbers : NumbersAreOne
+  pub texts : TextsTell
   pub names : (w : Word) (least : ℕ) (ts : List Terminal) (a b : List Span) → SpellsNames w least ts a → SpellsNames w least ts b → a ≡ b
   pub formulas : (w : Word) (ts : List Terminal) (f g : FormulaTree) → SpellsFormulaPiece w ts f → SpellsFormulaPiece w ts g → f ≡ g
   pub controllers : (ts : List Terminal) (t u : ProgTree) → SpellsController ts t → SpellsController ts u → t ≡ u
@@ -234,7 +234,7 @@ module _ (one : OneForms) where
   one_cut : (text : List ℕ) (ts us : List Token) (ps qs : List (List Terminal)) → IsCut text ts ps → IsCut text us qs → (ts ≡ us) × (ps ≡ qs)
   one_cut text ts us ps qs a b =
       let e : ts ≡ us = tokens_alike text ts us a.1.0 b.1.0 in
-      let f : a.0 ≡ b.0 = one_terminals one.numbers text us a.0 b.0 (subst (λ (zs : List Token). AreTerminals text zs a.0) e a.1.1) b.1.1 in
+      let f : a.0 ≡ b.0 = one_terminals one.texts text us a.0 b.0 (subst (λ (zs : List Token). AreTerminals text zs a.0) e a.1.1) b.1.1 in
       (e, a.2 ∙ ap (cut 0) f ∙ sym b.2)
 
   cut_good : (text : List ℕ) (ts us : List Token) (ps : List (List Terminal)) (at : ℕ) → IsCut text ts ps → Tokenizes text (Ok us) → IsFirstBad text us at → ⊥

@@ -6,6 +6,8 @@ use Rattle.vp_terms.specs.declared.expr.Var.TheVariants.{Tau}
 use Rattle.vp_lex.specs.declared.token.Token.{Token}
 use Rattle.vp_lex.specs.declared.token.TokenKind.{TokenKind}
 use Rattle.vp_lex.specs.declared.token.TokenKind.TheVariants as kind
+use Rattle.vp_lex.specs.declared.word.Word.TheVariants as word
+use Rattle.vp_lex.specs.Reserved.{word_text}
 use Rattle.vp_lex.specs.Bytes.{is_word_byte}
 use Rattle.vp_lex.specs.Tokens.{Fills, IsGap, nothing, spaced, commented, IsToken, IsWordlike, Spells}
 use Rattle.vp_grammar.specs.declared.terminal.Terminal.{Terminal}
@@ -78,7 +80,7 @@ stands text t (terminal.Number r w) h k = tt
 stands text t (terminal.Name s v) h k = subst (IsWithin text) (sym k.1) (within_if text t h (wordlike_ascii (drop t.from text) (t.to - t.from) (spelled_as text t kind.Name h k.0).0))
 stands text t (terminal.Variable s v) h k = subst (IsWithin text) (sym k.0) (within_if text t h (of k.1))
   where
-    of : ((t.kind ≡ kind.Next) × (v ≡ None)) ⊎ ((t.kind ≡ kind.Word) × (token_text text t ≡ codes "tau") × (v ≡ Some Tau)) → (j : ℕ) → j < t.to - t.from → slice_index (drop t.from text) j < 128
+    of : ((t.kind ≡ kind.Next) × (v ≡ None)) ⊎ ((t.kind ≡ kind.Word) × (token_text text t ≡ word_text word.Tau) × (v ≡ Some Tau)) → (j : ℕ) → j < t.to - t.from → slice_index (drop t.from text) j < 128
     of (inl e) = next_ascii (drop t.from text) (t.to - t.from) (spelled_as text t kind.Next h e.0)
     of (inr e) = wordlike_ascii (drop t.from text) (t.to - t.from) (spelled_as text t kind.Word h e.0).0
 

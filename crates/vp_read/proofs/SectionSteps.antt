@@ -7,7 +7,7 @@ use Rattle.vp_terms.specs.declared.package.Cert.{Cert}
 use Rattle.vp_grammar.specs.declared.fault.ParseErr.{ParseErr}
 use Rattle.vp_grammar.specs.declared.fault.ParseErr.TheVariants as form
 use Rattle.vp_grammar.specs.declared.terminal.Terminal.{Terminal}
-use Rattle.vp_grammar.specs.declared.terminal.Word.{Word}
+use Rattle.vp_lex.specs.declared.word.Word.{Word}
 use Rattle.vp_grammar.specs.Reads.{FailsAll}
 use Rattle.vp_grammar.specs.Entries.{SpellsNames}
 use Rattle.vp_grammar.specs.Certificates.{SpellsCert}

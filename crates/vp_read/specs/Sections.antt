@@ -6,8 +6,8 @@ use Rattle.vp_terms.specs.declared.package.Package.{Package}
 use Rattle.vp_terms.specs.Tree.{ExprTree, FormulaTree, ProgTree, expr_tree, formula_tree, prog_tree}
 use Rattle.vp_lex.specs.declared.token.Token.{Token}
 use Rattle.vp_grammar.specs.declared.terminal.Span.{Span}
-use Rattle.vp_grammar.specs.declared.terminal.Word.{Word}
-use Rattle.vp_grammar.specs.declared.terminal.Word.TheVariants as word
+use Rattle.vp_lex.specs.declared.word.Word.{Word}
+use Rattle.vp_lex.specs.declared.word.Word.TheVariants as word
 use Rattle.vp_grammar.specs.declared.terminal.Terminal.{Terminal}
 use Rattle.vp_grammar.specs.declared.entries.Mark.TheVariants as mark
 use Rattle.vp_grammar.specs.Heading.{SpellsHeading}

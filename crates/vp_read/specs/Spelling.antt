@@ -1,5 +1,5 @@
 -- What each token of a text stands for in the grammar.
-use Rattle.std.specs.Prelude.{ℕ, ◌≡◌, ◌-◌, ◌⊎◌, List, [], ◌∷◌, take, drop, None, Some, Result, Ok, Err, codes}
+use Rattle.std.specs.Prelude.{ℕ, ◌≡◌, ◌≢◌, ◌-◌, ◌⊎◌, List, [], ◌∷◌, take, drop, None, Some, Result, Ok, Err, codes}
 use Rattle.std.specs.declared.vec.Vec.{Vec}
 use Rattle.std.specs.declared.alloc.Global.{Global}
 use Rattle.vp_terms.specs.declared.formula.Cmp.{Cmp}
@@ -9,12 +9,12 @@ use Rattle.vp_terms.specs.Number.{is_whole, number}
 use Rattle.vp_terms.specs.Ratios.{IsNumber}
 use Rattle.vp_lex.specs.declared.token.Token.{Token}
 use Rattle.vp_lex.specs.declared.token.TokenKind.TheVariants as kind
+use Rattle.vp_lex.specs.Reserved.{word_text}
 use Rattle.vp_lex.specs.Tokens.{Tokenizes}
 use Rattle.vp_read.specs.declared.fault.ReadErr.{ReadErr}
 use Rattle.vp_read.specs.declared.fault.ReadErr.TheVariants as fault
 use Rattle.vp_grammar.specs.declared.terminal.Span.{Span}
-use Rattle.vp_grammar.specs.declared.terminal.Word.{Word}
-use Rattle.vp_grammar.specs.declared.terminal.Word.TheVariants as word
+use Rattle.vp_lex.specs.declared.word.Word.TheVariants as word
 use Rattle.vp_grammar.specs.declared.terminal.Symbol.{Symbol}
 use Rattle.vp_grammar.specs.declared.terminal.Symbol.TheVariants as symbol
 use Rattle.vp_grammar.specs.declared.terminal.Operator.{Operator}
@@ -32,35 +32,7 @@ token_text text t = slice text t.from t.to
 abbrev pub span_text : List ℕ → Span → List ℕ
 span_text text s = slice text s.from s.to
 
-abbrev pub word_text : Word → List ℕ
-word_text word.Package = codes "package"
-word_text word.Params = codes "params"
-word_text word.States = codes "states"
-word_text word.Controls = codes "controls"
-word_text word.Init = codes "init"
-word_text word.Inv = codes "inv"
-word_text word.Safe = codes "safe"
-word_text word.Ctrl = codes "ctrl"
-word_text word.Time = codes "time"
-word_text word.To = codes "to"
-word_text word.Flow = codes "flow"
-word_text word.Slack = codes "slack"
-word_text word.From = codes "from"
-word_text word.Domain = codes "domain"
-word_text word.Fallback = codes "fallback"
-word_text word.Cert = codes "cert"
-word_text word.Step = codes "step"
-word_text word.Pos = codes "pos"
-word_text word.Sum = codes "sum"
-word_text word.Eq = codes "eq"
-word_text word.Of = codes "of"
-word_text word.Times = codes "times"
-word_text word.Sq = codes "sq"
-word_text word.If = codes "if"
-word_text word.Else = codes "else"
-word_text word.True = codes "true"
-word_text word.False = codes "false"
-
+-- how a symbol, an operator and a comparison are spelled
 abbrev pub symbol_text : Symbol → List ℕ
 symbol_text symbol.Semicolon = codes ";"
 symbol_text symbol.Comma = codes ","
@@ -106,15 +78,15 @@ IsMark bytes = ((s : Symbol) × (bytes ≡ symbol_text s)) ⊎ (((o : Operator) 
 abbrev pub span_of : Token → Span
 span_of t = record { from = t.from; to = t.to }
 
--- the token stands for the terminal; no name has a variable yet
+-- the token stands for the terminal; no name has a variable yet, and the word `tau` is a variable
 abbrev pub IsTerminal : List ℕ → Token → Terminal → Type 0
-IsTerminal text t (terminal.Word w) = (t.kind ≡ kind.Word) × (token_text text t ≡ word_text w)
+IsTerminal text t (terminal.Word w) = (t.kind ≡ kind.Word) × (token_text text t ≡ word_text w) × (w ≢ word.Tau)
 IsTerminal text t (terminal.Symbol s) = (t.kind ≡ kind.Symbol) × (token_text text t ≡ symbol_text s)
 IsTerminal text t (terminal.Operator o) = (t.kind ≡ kind.Symbol) × (token_text text t ≡ operator_text o)
 IsTerminal text t (terminal.Compare c) = (t.kind ≡ kind.Symbol) × (token_text text t ≡ compare_text c)
 IsTerminal text t (terminal.Number r w) = (t.kind ≡ kind.Number) × IsNumber (token_text text t) r × (w ≡ is_whole (token_text text t))
 IsTerminal text t (terminal.Name s v) = (t.kind ≡ kind.Name) × (s ≡ span_of t) × (v ≡ None)
-IsTerminal text t (terminal.Variable s v) = (s ≡ span_of t) × (((t.kind ≡ kind.Next) × (v ≡ None)) ⊎ ((t.kind ≡ kind.Word) × (token_text text t ≡ codes "tau") × (v ≡ Some Tau)))
+IsTerminal text t (terminal.Variable s v) = (s ≡ span_of t) × (((t.kind ≡ kind.Next) × (v ≡ None)) ⊎ ((t.kind ≡ kind.Word) × (token_text text t ≡ word_text word.Tau) × (v ≡ Some Tau)))
 
 -- each token stands for the terminal at its place
 abbrev pub AreTerminals : List ℕ → List Token → List Terminal → Type 0

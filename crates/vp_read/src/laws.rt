@@ -26,7 +26,7 @@ use vp_grammar::entry_laws::{
 use vp_grammar::laws::{
     good_expressions, good_formulas, one_expression, one_formula, whole_formulas,
 };
-use vp_lex::laws::one_tokenization;
+use vp_lex::laws::{one_spelling, one_tokenization};
 use vp_terms::laws::{numbers_are_written, texts_write_one_number};
 
 /// What a text is read as is well formed, and each certificate begins with its one `pos` and has whole
@@ -57,6 +57,7 @@ pub fn one_reading()
 {
     one_tokenization();
     texts_write_one_number();
+    one_spelling();
     one_list_of_names();
     one_formula();
     one_controller();
@@ -96,6 +97,7 @@ pub fn parts_are_read_once()
         IsReadOnce SpellsCert text tokens names }
 {
     texts_write_one_number();
+    one_spelling();
     one_formula();
     one_expression();
     one_certificate();

@@ -6,7 +6,7 @@ ghost use Rattle.vp_grammar.specs.FormulaReads.{SpellsFormulaPiece};
 ghost use Rattle.vp_grammar.specs.Controllers.{SpellsController};
 ghost use Rattle.vp_grammar.specs.Entries.{SpellsEntries, SpellsBounds, SpellsTimes};
 ghost use Rattle.vp_terms.specs.Packages.{slack_tree};
-ghost use Rattle.vp_grammar.specs.declared.terminal.Word.TheVariants as word;
+ghost use Rattle.vp_lex.specs.declared.word.Word.TheVariants as word;
 ghost use Rattle.vp_grammar.specs.declared.entries.Mark.TheVariants as mark;
 ghost use Rattle.vp_read.specs.Pieces.{items, piece};
 ghost use Rattle.vp_read.specs.Naming.{AreFew, IsWithin, StandsIn};

@@ -1,111 +1,14 @@
-//! Reserved words, symbols and numbers by their bytes.
-ghost use Rattle.std.specs.Prelude.{◌≡◌, ◌≢◌, MatchOption, codes};
-ghost use Rattle.vp_lex.specs.Reserved.{IsOneOf, short_words, middle_words, long_words, IsReserved};
+//! Symbols and numbers by their bytes.
+ghost use Rattle.std.specs.Prelude.{◌≡◌, MatchOption};
 ghost use Rattle.std.specs.Str.{all_ascii_digits};
 ghost use Rattle.vp_terms.specs.Number.{is_whole};
-ghost use Rattle.vp_read.specs.Spelling.{word_text, symbol_text, operator_text, compare_text, SpellsMark, IsMark};
+ghost use Rattle.vp_read.specs.Spelling.{symbol_text, operator_text, compare_text, SpellsMark, IsMark};
 ghost use Rattle.vp_grammar.specs.declared.terminal.Symbol.{Symbol};
 ghost use Rattle.vp_terms.specs.declared.formula.Cmp.{Cmp};
 ghost use Rattle.vp_grammar.specs.declared.terminal.Operator.{Operator};
 
-use vp_grammar::{Operator, Symbol, Terminal, Word};
+use vp_grammar::{Operator, Symbol, Terminal};
 use vp_terms::Cmp;
-
-// A reserved word of two or three letters; `tau` is a variable.
-fn short_word(word: &[u8]) -> Option<Word>
-    ensures { MatchOption result (IsOneOf word.now short_words → word.now ≡ codes "tau") (λ w. word.now ≡ word_text w) }
-{
-    if word == b"inv".as_slice() {
-        Some(Word::Inv)
-    } else if word == b"to".as_slice() {
-        Some(Word::To)
-    } else if word == b"pos".as_slice() {
-        Some(Word::Pos)
-    } else if word == b"sum".as_slice() {
-        Some(Word::Sum)
-    } else if word == b"eq".as_slice() {
-        Some(Word::Eq)
-    } else if word == b"of".as_slice() {
-        Some(Word::Of)
-    } else if word == b"sq".as_slice() {
-        Some(Word::Sq)
-    } else if word == b"if".as_slice() {
-        Some(Word::If)
-    } else {
-        None
-    }
-}
-
-// A reserved word of four letters.
-fn middle_word(word: &[u8]) -> Option<Word>
-    ensures { MatchOption result (IsOneOf word.now middle_words → ⊥) (λ w. word.now ≡ word_text w) }
-{
-    if word == b"init".as_slice() {
-        Some(Word::Init)
-    } else if word == b"safe".as_slice() {
-        Some(Word::Safe)
-    } else if word == b"ctrl".as_slice() {
-        Some(Word::Ctrl)
-    } else if word == b"time".as_slice() {
-        Some(Word::Time)
-    } else if word == b"flow".as_slice() {
-        Some(Word::Flow)
-    } else if word == b"from".as_slice() {
-        Some(Word::From)
-    } else if word == b"cert".as_slice() {
-        Some(Word::Cert)
-    } else if word == b"step".as_slice() {
-        Some(Word::Step)
-    } else if word == b"else".as_slice() {
-        Some(Word::Else)
-    } else if word == b"true".as_slice() {
-        Some(Word::True)
-    } else {
-        None
-    }
-}
-
-// The reserved word of five letters or more.
-fn long_word(word: &[u8]) -> Word
-    requires { IsOneOf word.now long_words }
-    ensures { word.now ≡ word_text result }
-{
-    if word == b"package".as_slice() {
-        Word::Package
-    } else if word == b"params".as_slice() {
-        Word::Params
-    } else if word == b"states".as_slice() {
-        Word::States
-    } else if word == b"controls".as_slice() {
-        Word::Controls
-    } else if word == b"slack".as_slice() {
-        Word::Slack
-    } else if word == b"domain".as_slice() {
-        Word::Domain
-    } else if word == b"fallback".as_slice() {
-        Word::Fallback
-    } else if word == b"times".as_slice() {
-        Word::Times
-    } else {
-        Word::False
-    }
-}
-
-/// The reserved word of these bytes, which are not `tau`.
-#[tactic(auto, unfolding(vp_lex::specs::Reserved::IsReserved))]
-pub(crate) fn word_of(word: &[u8]) -> Word
-    requires reserved { IsReserved word.now }
-    requires no_variable { word.now ≢ codes "tau" }
-    ensures { word.now ≡ word_text result }
-{
-    if let Some(found) = short_word(word) {
-        return found;
-    }
-    match middle_word(word) {
-        Some(found) => found,
-        None => long_word(word),
-    }
-}
 
 // A symbol that is no operator and no comparison.
 fn symbol_of(mark: &[u8]) -> Option<Symbol>

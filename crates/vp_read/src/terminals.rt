@@ -5,10 +5,10 @@ ghost use Rattle.vp_lex.specs.Tokens.{IsToken};
 ghost use Rattle.vp_read.specs.Spelling.{AreTerminals, IsBadNumber, IsTerminal, IsFirstBad, GivesTerminals, span_of, token_text};
 
 use crate::fault::ReadErr;
-use crate::spelling::{is_whole, mark_of, word_of};
+use crate::spelling::{is_whole, mark_of};
 use std::alloc::Global;
 use vp_grammar::{Span, Terminal};
-use vp_lex::{Token, TokenKind};
+use vp_lex::{Token, TokenKind, Word};
 use vp_terms::{Ratio, Var};
 
 // Where a token stands.
@@ -35,11 +35,11 @@ fn word_terminal(text: &[u8], token: Token) -> Terminal
     requires kind { token.kind ≡ kind.Word }
     ensures { IsTerminal text.now token result }
 {
-    let word = token_text(text, token);
-    if word == b"tau".as_slice() {
-        Terminal::Variable(span_of(token), Some(Var::Tau))
-    } else {
-        Terminal::Word(word_of(word))
+    match Word::of(token_text(text, token)) {
+        Some(Word::Tau) => Terminal::Variable(span_of(token), Some(Var::Tau)),
+        Some(word) => Terminal::Word(word),
+        // A token of this kind is a reserved word.
+        None => unreachable!(),
     }
 }
 

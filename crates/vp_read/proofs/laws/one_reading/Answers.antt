@@ -5,7 +5,7 @@ pub returns : goal.returns
 returns c =
     let one : OneForms = record {
       tokens = c.one_tokenization.ensures;
-      numbers = c.texts_write_one_number.ensures;
+      texts = record { numbers = c.texts_write_one_number.ensures; words = c.one_spelling.ensures };
       names = c.one_list_of_names.ensures;
       formulas = c.one_formula.ensures.piece;
       controllers = c.one_controller.ensures;
