@@ -1,56 +1,38 @@
 -- Normal forms of formulas whose variables are replaced.
 use Rattle.std.proofs.Common.{◌≡◌, ◌+◌, ℕ, Bool, ◌&&◌, nat_le, IsTrue, List, refl, sym, ap, ap₂, subst, ◌∙◌}
-use Rattle.vp_terms.specs.Rational.{sum, difference}
+use Rattle.vp_terms.specs.Rational.{difference}
 use Rattle.vp_terms.specs.Places.{has_variable}
 use Rattle.vp_terms.specs.Variables.{all_variables, all_variables_of}
 use Rattle.vp_terms.specs.declared.expr.Places.{Places}
 use Rattle.vp_terms.specs.declared.expr.Var.{Var}
 use Rattle.vp_terms.specs.declared.expr.Expr.{Expr}
-use Rattle.vp_terms.specs.declared.expr.Expr.TheVariants.{Num, Var as Variable, Add', Sub', Mul', Pow'}
 use Rattle.vp_terms.specs.declared.formula.Cmp.{Cmp}
 use Rattle.vp_terms.specs.declared.formula.Cmp.TheVariants as cmp
 use Rattle.vp_terms.specs.declared.formula.Formula.{Formula}
 use Rattle.vp_terms.specs.declared.formula.Formula.TheVariants.{True, Cmp as Compare, And', Or', Not'}
-use Rattle.vp_terms.proofs.Agreeing.{Each, both, each_of}
-use Rattle.vp_poly.specs.Coefficient.{Coefficients, coefficients, times, to_power}
-use Rattle.vp_poly.specs.Weights.{Weights, fits, weight, weight_at, weight_in, weight_sum, weight_product, weight_power, weight_between}
+use Rattle.vp_terms.proofs.Agreeing.{both}
+use Rattle.vp_poly.specs.Coefficient.{Coefficients, coefficients}
+use Rattle.vp_poly.specs.Weights.{Weights, fits, weight, weight_at, weight_in, weight_sum, weight_between}
 use Rattle.vp_poly.specs.Canonical.{IsCanonical}
 use Rattle.vp_poly.specs.Replaced.{replaced, formula_replaced}
 use Rattle.vp_poly.proofs.Lawful.{coefficients-replaced, weight-replaced}
+use Rattle.vp_poly.proofs.Replacing.{coefficients-same, weight-same}
 use Rattle.vp_logic.specs.declared.norm.Rel.{Rel}
 use Rattle.vp_logic.specs.declared.norm.Rel.TheVariants.{Ge, Gt, Eq}
 use Rattle.vp_logic.specs.Tree.{Tree}
 use Rattle.vp_logic.specs.Narrow.{comparisons_fit, terms_of, is_narrow}
 use Rattle.vp_logic.specs.Normal.{IsAtom, IsComparison, IsNormal}
 
--- the same coefficients for each variable
-pub coefs_over : (f g : Var → Coefficients) (e : Expr) → Each (λ v. f v ≡ g v) e → coefficients f e ≡ coefficients g e
-coefs_over f g (Num r) h = refl
-coefs_over f g (Variable v) h = h
-coefs_over f g (Add' p e q d) h = ap₂ (λ (a b : Coefficients). λ m. sum (a m) (b m)) (coefs_over f g e h.0) (coefs_over f g d h.1)
-coefs_over f g (Sub' p e q d) h = ap₂ (λ (a b : Coefficients). λ m. difference (a m) (b m)) (coefs_over f g e h.0) (coefs_over f g d h.1)
-coefs_over f g (Mul' p e q d) h = ap₂ times (coefs_over f g e h.0) (coefs_over f g d h.1)
-coefs_over f g (Pow' p e n) h = ap (λ (a : Coefficients). to_power a n) (coefs_over f g e h)
-
--- the same weight for each variable
-pub weight_over : (f g : Var → Weights) (e : Expr) → Each (λ v. f v ≡ g v) e → weight f e ≡ weight g e
-weight_over f g (Num r) h = refl
-weight_over f g (Variable v) h = h
-weight_over f g (Add' p e q d) h = ap₂ weight_sum (weight_over f g e h.0) (weight_over f g d h.1)
-weight_over f g (Sub' p e q d) h = ap₂ weight_sum (weight_over f g e h.0) (weight_over f g d h.1)
-weight_over f g (Mul' p e q d) h = ap₂ weight_product (weight_over f g e h.0) (weight_over f g d h.1)
-weight_over f g (Pow' p e n) h = ap (λ (v : Weights). weight_power v n) (weight_over f g e h)
-
 -- what ws and f give for the variables of the model is what ws0 and f0 give for the expressions r
 module _ (p : Places) (ws ws0 : List Weights) (f f0 : Var → Coefficients) (r : Var → Expr) (weights : (v : Var) → IsTrue (has_variable p v) → weight_at p ws v ≡ weight_in p ws0 (r v)) (coefs : (v : Var) → IsTrue (has_variable p v) → f v ≡ coefficients f0 (r v)) where
   pub weight_replaced : (e : Expr) → IsTrue (all_variables (has_variable p) e) → weight_in p ws e ≡ weight_in p ws0 (replaced r e)
   weight_replaced e h =
-      weight_over (weight_at p ws) (λ v. weight (weight_at p ws0) (r v)) e (each_of (has_variable p) _ e weights h)
+      weight-same (has_variable p) (weight_at p ws) (λ v. weight (weight_at p ws0) (r v)) e weights h
       ∙ sym (weight-replaced (weight_at p ws0) r e)
 
   pub coefs_replaced : (e : Expr) → IsTrue (all_variables (has_variable p) e) → coefficients f e ≡ coefficients f0 (replaced r e)
   coefs_replaced e h =
-      coefs_over f (λ v. coefficients f0 (r v)) e (each_of (has_variable p) _ e coefs h)
+      coefficients-same (has_variable p) f (λ v. coefficients f0 (r v)) e coefs h
       ∙ sym (coefficients-replaced f0 r e)
 
   between : (a b : Expr) → IsTrue (all_variables (has_variable p) a) → IsTrue (all_variables (has_variable p) b) → weight_between p ws a b ≡ weight_between p ws0 (replaced r a) (replaced r b)

@@ -16,7 +16,9 @@ pub enum Rel {
 /// A polynomial's comparison to 0.
 #[derive(Drop)]
 pub struct Atom {
+    /// What is compared to 0.
     pub poly: Poly,
+    /// How it is compared.
     pub rel: Rel,
 }
 
@@ -24,6 +26,7 @@ pub struct Atom {
 #[cycle(norm)]
 #[derive(Drop)]
 pub enum Norm {
+    /// It holds where the atom does.
     Atom(Atom),
     /// All members hold. Without members it holds.
     And(Box<Norms>),
@@ -35,6 +38,8 @@ pub enum Norm {
 #[cycle(norm)]
 #[derive(Drop)]
 pub enum Norms {
+    /// No members are left.
     End,
+    /// A member, and those behind it.
     More(Norm, Box<Norms>),
 }

@@ -14,6 +14,7 @@ use std::alloc::{AllocError, Global};
 pub enum CaseErr {
     /// There are more than 256 cases: their number, or 2^64 - 1 where it is greater.
     Many { count: u64 },
+    /// There was too little memory for the cases.
     Memory,
 }
 

@@ -1,5 +1,5 @@
 -- The box of each variable where a record is tested and behind the reply, and boxes that stay valid.
-use Rattle.std.proofs.Common.{◌≡◌, ◌≢◌, ◌⊎◌, inl, inr, refl, sym, ◌∙◌, ap, subst, ℕ, zero, suc, ◌+◌, ◌-◌, ◌*◌, ◌<◌, ◌≤◌, Bool, true, false, nat_lt, IsTrue, ℤ, pos, List, [], ◌∷◌, ◌++◌, length, map, take, drop, get_or, replicate, Option, None, Some, arith}
+use Rattle.std.proofs.Common.{◌≡◌, refl, sym, ◌∙◌, ap, subst, ℕ, suc, ◌+◌, ◌-◌, ◌*◌, ◌<◌, ◌≤◌, Bool, true, false, nat_lt, IsTrue, ℤ, pos, List, [], ◌∷◌, length, map, take, drop, replicate, Option, None, Some, arith}
 use Rattle.std.specs.List.{slice_get}
 use Rattle.std.specs.Ordering.{int_eq}
 use Rattle.std.proofs.Math.ListN.{get_or-append}
@@ -10,7 +10,7 @@ use Rattle.vp_words.specs.declared.record.Due.TheVariants as due
 use Rattle.vp_words.specs.declared.record.Kind.{Kind}
 use Rattle.vp_words.specs.declared.record.Kind.TheVariants.{Init, Choice, Sense}
 use Rattle.vp_words.specs.Record.{IsValid, field_count, kind_due, padded, place_count}
-use Rattle.vp_terms.specs.Places.{place, has_variable}
+use Rattle.vp_terms.specs.Places.{has_variable}
 use Rattle.vp_terms.specs.declared.expr.Var.{Var}
 use Rattle.vp_terms.specs.declared.expr.Var.TheVariants.{Param, State, Control, NextState, NextControl, Tau}
 use Rattle.vp_terms.proofs.Standing.{below}

@@ -1,22 +1,18 @@
 -- Where boxes stand after a record, and that those of valid records are valid.
-use Rattle.std.proofs.Common.{◌≡◌, ◌≢◌, ◌⊎◌, inl, inr, refl, sym, ◌∙◌, ap, subst, ℕ, zero, suc, ◌+◌, ◌-◌, ◌*◌, ◌<◌, ◌≤◌, Bool, true, false, IsTrue, ℤ, pos, List, [], ◌∷◌, ◌++◌, length, map, take, drop, get_or, replicate, Option, None, Some, arith}
+use Rattle.std.proofs.Common.{◌≡◌, refl, sym, ◌∙◌, ap, ℕ, zero, suc, ◌+◌, ◌*◌, ◌<◌, ◌≤◌, true, IsTrue, ℤ, pos, List, [], ◌∷◌, length, map, take, drop, get_or, Some, arith}
 use Rattle.std.specs.Prelude.{slice_set}
 use Rattle.std.specs.List.{All, list_all, slice_get}
-use Rattle.std.specs.Option.{option_map}
-use Rattle.std.specs.Ordering.{int_eq}
-use Rattle.std.proofs.lemmas.Bool.{cases_lt}
 use Rattle.std.proofs.lemmas.Int.{ints}
-use Rattle.std.proofs.lemmas.List.{get_or-set_same, get_or-set_other, length-set, get_or-map, length-map, length-drop, length-take, get_or-drop}
+use Rattle.std.proofs.lemmas.List.{get_or-set_same, get_or-set_other, length-set, get_or-map, length-map}
 use Rattle.std.proofs.lemmas.List.Elements.{All-nil, All-cons, All-head, All-tail, All-set}
 use Rattle.std.proofs.lemmas.Option.{slice_get-get_or}
 use Rattle.vp_words.specs.Ends.{encloses}
 use Rattle.vp_words.specs.Number.{IsWord, IsFinite, is_finite}
 use Rattle.vp_words.specs.Record.{pairs_then_finite}
 use Rattle.vp_terms.proofs.Agreeing.{both}
-use Rattle.vp_interval.specs.Represents.{AreValid}
 use Rattle.vp_interval.specs.Rounding.{Ends, IsValid, point}
-use Rattle.vp_interval.proofs.Points.{valid_point, finite_point}
-use Rattle.vp_sandbox.specs.Boxes.{boxes_of, placed, pair_at, point_words}
+use Rattle.vp_interval.proofs.Points.{valid_point}
+use Rattle.vp_sandbox.specs.Boxes.{boxes_of, placed, pair_at}
 
 -- ---- lookups
 

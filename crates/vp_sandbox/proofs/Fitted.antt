@@ -1,15 +1,12 @@
 -- What fits a sandbox may be told the truth of.
-use Rattle.std.proofs.Common.{◌≡◌, ℕ, Bool, List, [], ◌∷◌, map, refl}
+use Rattle.std.proofs.Common.{ℕ, Bool, List, [], ◌∷◌, refl}
 use Rattle.std.specs.List.{All}
 use Rattle.std.proofs.lemmas.List.Elements.{All-nil, All-cons}
 use Rattle.vp_poly.specs.declared.mono.Term.{Term}
 use Rattle.vp_poly.specs.Places.{AreBelow}
-use Rattle.vp_logic.specs.Tree.{tree}
-use Rattle.vp_interval.specs.Formula.{FormFits, PartsFit}
 use Rattle.vp_interval.specs.Polynomial.{AreSmall}
-use Rattle.vp_sandbox.specs.declared.sandbox.Sandbox.{Sandbox}
-use Rattle.vp_sandbox.specs.Fits.{Fits, PolysFit, in_init, in_ctrl, in_plant}
-use Rattle.vp_sandbox.proofs.Fitting.{form_fits, parts_fit, places_at, small_at}
+use Rattle.vp_sandbox.specs.Fits.{PolysFit}
+use Rattle.vp_sandbox.proofs.Fitting.{places_at, small_at}
 
 pub fallback_places : (f : ℕ → Bool) (ps : List (List Term)) → PolysFit f ps → All (λ p. AreBelow 32 p) ps
 fallback_places f [] h = All-nil (λ (p : List Term). AreBelow 32 p)

@@ -1,5 +1,5 @@
 -- The boxes of valid records are valid, and stay so behind each reply.
-use Rattle.std.proofs.Common.{◌≡◌, ◌≢◌, ◌⊎◌, inl, inr, refl, sym, ◌∙◌, ap, subst, ℕ, zero, suc, ◌+◌, Bool, true, false, IsTrue, ℤ, pos, List, [], ◌∷◌, length, map, take, drop, Option, None, Some, arith}
+use Rattle.std.proofs.Common.{◌≡◌, ◌⊎◌, inl, inr, refl, sym, ◌∙◌, ap, subst, ℕ, suc, ◌+◌, Bool, true, false, IsTrue, ℤ, pos, List, [], ◌∷◌, length, map, take, drop, Option, None, Some, arith}
 use Rattle.std.specs.List.{All}
 use Rattle.std.specs.Option.{option_map}
 use Rattle.std.specs.Ordering.{int_eq}

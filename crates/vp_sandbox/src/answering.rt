@@ -1,10 +1,12 @@
 //! The sandbox's answer to a record.
-ghost use Rattle.std.specs.Prelude.{◌≡◌, ◌+◌, ◌*◌, ◌<◌, ◌≤◌, ◌^◌, ◌↔◌, List, map, length, take, drop, IsTrue, MatchOption, Some, None, replicate};
+ghost use Rattle.std.specs.Prelude.{◌≡◌, ◌+◌, ◌*◌, ◌<◌, ◌≤◌, ◌^◌, ◌↔◌, List, map, length, take, drop, IsSome, IsTrue, IfSome, MatchOption, Some, None, replicate};
 ghost use Rattle.vp_words.specs.declared.record.Due.TheVariants as due;
 ghost use Rattle.vp_words.specs.declared.record.Turn.TheVariants as turn;
 ghost use Rattle.vp_words.specs.Record.{IsRecord, IsValid, padded, pairs_then_finite};
 ghost use Rattle.vp_interval.specs.Interval.{ends};
-ghost use Rattle.vp_interval.specs.Polynomial.{interval_of};
+ghost use Rattle.vp_interval.specs.Polynomial.{AreSmall, interval_of};
+ghost use Rattle.vp_poly.specs.Places.{AreBelow};
+ghost use Rattle.vp_words.specs.Number.{IsFinite};
 ghost use Rattle.vp_sandbox.specs.Answer.{acted, sandbox_of, choice_answer, init_answer, sense_answer, is_unknown};
 ghost use Rattle.vp_sandbox.specs.Boxes.{point_words};
 ghost use Rattle.vp_sandbox.specs.Fits.{Fits, IsDue};
@@ -15,6 +17,7 @@ use crate::boxes::{
 };
 use crate::{Sandbox, SandboxState};
 use vp_interval::{Interval, Truth, first_not_yes, of_poly, truth_of};
+use vp_poly::Poly;
 use vp_words::{Due, Kind, Record, Reply, Turn, Why, Word};
 
 /// Answers a record of the kind that is due. `Ended` comes exactly where nothing is due, which a
@@ -161,6 +164,18 @@ fn padded(words: &[Word]) -> [Word; 16]
     out
 }
 
+// The word that a polynomial's interval is, where its two ends are the same.
+fn point_of(poly: &Poly, boxes: &[Interval; 32]) -> Option<Word>
+    requires places { AreBelow (length boxes.now) poly.now }
+    requires small { AreSmall poly.now }
+    ensures some { IsSome result ↔ ((interval_of (map ends boxes.now) poly.now).lo ≡
+        (interval_of (map ends boxes.now) poly.now).hi) }
+    ensures word { IfSome result (λ w. w ≡ (interval_of (map ends boxes.now) poly.now).lo) }
+    ensures finite { IfSome result IsFinite }
+{
+    of_poly(poly, boxes).as_point()
+}
+
 // The word of each fallback polynomial, where the two ends of each are the same.
 fn fallback_words(s: &Sandbox, boxes: &[Interval; 32]) -> Option<[Word; 16]>
     requires { Fits s.now }
@@ -170,7 +185,7 @@ fn fallback_words(s: &Sandbox, boxes: &[Interval; 32]) -> Option<[Word; 16]>
 {
     let mut words = [Word::ZERO; 16];
     for (i, poly) in s.fallback.get().iter().enumerate() {
-        words[i] = of_poly(poly, boxes).as_point()?;
+        words[i] = point_of(poly, boxes)?;
     }
     Some(words)
 }

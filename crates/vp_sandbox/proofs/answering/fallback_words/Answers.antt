@@ -1,4 +1,4 @@
-use Rattle.std.proofs.Common.{◌≡◌, ℕ, ◌<◌, map, take, IsTrue, Some, None, refl, arith, rules, subst, sym}
+use Rattle.std.proofs.Common.{◌≡◌, ℕ, ◌<◌, map, take, IsTrue, Some, None, refl, arith, rules, subst}
 use Rattle.std.proofs.Math.Numerals.{add-one}
 use Rattle.std.specs.List.{list_all}
 use Rattle.vp_words.specs.Number.{is_finite}
@@ -14,14 +14,14 @@ use Rattle.vp_sandbox.proofs.answering.fallback_words.Goals as goal
 pub loop-i-init : goal.loop-i-init
 loop-i-init c = HasWords-none _ _ _ refl
 
-pub of_poly-requires-clause-places : goal.of_poly-requires-clause-places
-of_poly-requires-clause-places c =
+pub point_of-requires-clause-places : goal.point_of-requires-clause-places
+point_of-requires-clause-places c =
     let lt = rw c.get-poly-items.ensures at c.loop-i-test.true in
     let is = rw c.get-poly-items.ensures at c.poly-item.is in
     places_at _ (in_init c.args.s.now.counts) c.poly-item.result c.type_inv.boxes (rw is (poly_fits (in_init c.args.s.now.counts) c.args.s.now.fallback c.loop-i.i c.poly-item.result lt c.requires.fallback))
 
-pub of_poly-requires-clause-small : goal.of_poly-requires-clause-small
-of_poly-requires-clause-small c =
+pub point_of-requires-clause-small : goal.point_of-requires-clause-small
+point_of-requires-clause-small c =
     let lt = rw c.get-poly-items.ensures at c.loop-i-test.true in
     let is = rw c.get-poly-items.ensures at c.poly-item.is in
     small_at (in_init c.args.s.now.counts) c.poly-item.result (rw is (poly_fits (in_init c.args.s.now.counts) c.args.s.now.fallback c.loop-i.i c.poly-item.result lt c.requires.fallback))
@@ -32,15 +32,13 @@ returns-in_err-words c =
     let is = rw c.get-poly-items.ensures at c.poly-item.is in
     let none : c.from_residual.result ≡ None = search rules in
     let same : Ends → Type 0 = λ e. e.lo ≡ e.hi in
-    let apart = λ (e : same (interval_of (map ends c.args.boxes.now) c.poly-item.result)). (let q = c.in_err-words.ensures.some.1 (subst same (sym c.of_poly.ensures.exact) e) in absurd (cc)) in
+    let apart = λ (e : same (interval_of (map ends c.args.boxes.now) c.poly-item.result)). (let q = c.in_err-words.ensures.some.1 e in absurd (cc)) in
     rw none (HasWords-stops _ _ c.loop-i.i c.loop-i.words c.poly-item.result lt is c.loop-i.invariant apart)
 
 pub loop-i-preserved : goal.loop-i-preserved
 loop-i-preserved c =
     let lt = rw c.get-poly-items.ensures at c.loop-i-test.true in
     let is = rw c.get-poly-items.ensures at c.poly-item.is in
-    let same : Ends → Type 0 = λ e. e.lo ≡ e.hi in
-    let low : Ends → Type 0 = λ e. c.in_ok-words.field-0 ≡ e.lo in
     let few : c.loop-i.i < 16 = omega (arith, lt, c.requires.fallback_count, c.requires.counts.0, c.requires.counts.2) in
     rw
     add-one
@@ -55,8 +53,8 @@ loop-i-preserved c =
     c.loop-i.invariant
     c.in_ok-words.field-0
     few
-    (subst same c.of_poly.ensures.exact (c.in_ok-words.ensures.some.0 refl))
-    (subst low c.of_poly.ensures.exact c.in_ok-words.ensures.word)
+    (c.in_ok-words.ensures.some.0 refl)
+    c.in_ok-words.ensures.word
     c.in_ok-words.ensures.finite)
 
 pub returns : goal.returns
