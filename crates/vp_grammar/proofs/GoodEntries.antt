@@ -156,7 +156,8 @@ times_good p e f ts s h =
     (good_if in_time p e s.0 (ap (λ (t : ExprTree × ExprTree). t.0) q) b.0, good_if in_time p f s.1 (ap (λ (t : ExprTree × ExprTree). t.1) q) b.1)
 
 -- certificates
-abbrev is_good_term_tree : Places → TermTree → Bool
+-- what is well formed of a term without its boxes
+abbrev pub is_good_term_tree : Places → TermTree → Bool
 is_good_term_tree p (Product n ls) = true
 is_good_term_tree p (Squares n es ls) = list_all (is_good_tree in_certificate p) es
 is_good_term_tree p (Multiple l t) = is_good_tree in_certificate p t
@@ -166,7 +167,7 @@ term_good_is p (term.Pos n ls) = refl
 term_good_is p (term.Sum n es ls) = exprs_good_is in_certificate p es
 term_good_is p (term.Eq l e) = good_expr_is in_certificate p e
 
-terms_good_is : (p : Places) (ts : List CertTerm) → list_all (is_good_term p) ts ≡ list_all (is_good_term_tree p) (map term_tree ts)
+pub terms_good_is : (p : Places) (ts : List CertTerm) → list_all (is_good_term p) ts ≡ list_all (is_good_term_tree p) (map term_tree ts)
 terms_good_is p [] = refl
 terms_good_is p (t ∷ ts) = let a = term_good_is p t in let b = terms_good_is p ts in cc
 

@@ -1,7 +1,6 @@
 -- Where the tree of declared terminals is well formed, none of their variables strays.
 use Rattle.std.proofs.Common.{ℕ, ◌≡◌, Bool, true, false, ◌&&◌, IsTrue, List, [], ◌∷◌, Option, None, Some, unsigned_abs, nat_le, if◌then◌else◌, refl, ap, sym, ◌∙◌}
 use Rattle.std.specs.List.{list_all}
-use Rattle.vp_terms.specs.declared.expr.Var.{Var}
 use Rattle.vp_terms.specs.declared.expr.Places.{Places}
 use Rattle.vp_terms.specs.declared.expr.Expr.{Expr}
 use Rattle.vp_terms.specs.declared.formula.Formula.{Formula}
@@ -38,7 +37,7 @@ GoodOver k p f = IsTrue (is_good_condition k p f)
 
 module _ (k : Kinds) (p : Places) where
   mutual
-    expression_kept : (e : Expression) (rest : List Terminal) → Declared (expression_then e rest) → Declared rest × (Good k p (expression_tree e) → Stand k p rest → Stand k p (expression_then e rest))
+    pub expression_kept : (e : Expression) (rest : List Terminal) → Declared (expression_then e rest) → Declared rest × (Good k p (expression_tree e) → Stand k p rest → Stand k p (expression_then e rest))
     expression_kept (Summed t ts) rest d =
         let a : Declared (terms_then ts rest) × (Good k p (start_tree t) → Stand k p (terms_then ts rest) → Stand k p (start_then t (terms_then ts rest))) = start_kept t (terms_then ts rest) d in
         let b : Declared rest × (Good k p (terms_tree (start_tree t) ts) → Stand k p rest → Good k p (start_tree t) × Stand k p (terms_then ts rest)) = terms_kept (start_tree t) ts rest a.0 in
@@ -103,7 +102,7 @@ module _ (k : Kinds) (p : Places) where
     base_kept (Bracketed e) rest d = expression_kept e (terminal.Symbol symbol.Close ∷ rest) d
 
   mutual
-    formula_kept : (e : Disjunction) (rest : List Terminal) → Declared (or_then e rest) → Declared rest × (GoodOver k p (or_formula e) → Stand k p rest → Stand k p (or_then e rest))
+    pub formula_kept : (e : Disjunction) (rest : List Terminal) → Declared (or_then e rest) → Declared rest × (GoodOver k p (or_formula e) → Stand k p rest → Stand k p (or_then e rest))
     formula_kept (OrList f fs) rest d =
         let a : Declared (ors_then fs rest) × (GoodOver k p (and_formula f) → Stand k p (ors_then fs rest) → Stand k p (and_then f (ors_then fs rest))) = conjunction_kept f (ors_then fs rest) d in
         let b : Declared rest × (GoodOver k p (ors_formula (and_formula f) fs) → Stand k p rest → GoodOver k p (and_formula f) × Stand k p (ors_then fs rest)) = ors_kept (and_formula f) fs rest a.0 in
@@ -159,7 +158,7 @@ module _ (k : Kinds) (p : Places) where
   unguard true o s c h f = f h
   unguard false o s c h f = absurd (cc)
 
-  none_strays : (i : ℕ) (ts : List Terminal) → Stand k p ts → first_stray (Plain k) p i ts ≡ None
+  pub none_strays : (i : ℕ) (ts : List Terminal) → Stand k p ts → first_stray (Plain k) p i ts ≡ None
   none_strays i [] h = refl
   none_strays i (terminal.Name s v ∷ ts) h = unguard (is_known k p v) (first_stray (Plain k) p i ts) s (list_all (may_stand k p) ts) h (λ g. none_strays i ts g)
   none_strays i (terminal.Variable s v ∷ ts) h = unguard (is_known k p v) (first_stray (Plain k) p i ts) s (list_all (may_stand k p) ts) h (λ g. none_strays i ts g)

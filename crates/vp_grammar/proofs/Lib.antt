@@ -12,6 +12,8 @@ pub mod GoodEntries
 pub mod GoodTrees
 pub mod HeadingSteps
 pub mod Kept
+pub mod KeptCertificates
+pub mod KeptControllers
 pub mod Lists
 pub mod NoStrays
 pub mod Steps

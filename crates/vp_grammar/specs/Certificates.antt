@@ -5,10 +5,6 @@ use Rattle.std.specs.Ordering.{int_eq}
 use Rattle.vp_terms.specs.declared.ratio.Ratio.{Ratio}
 use Rattle.vp_terms.specs.declared.package.Part.{Part}
 use Rattle.vp_terms.specs.declared.package.Part.TheVariants as part
-use Rattle.vp_terms.specs.declared.package.CertTerm.{CertTerm}
-use Rattle.vp_terms.specs.declared.package.CertTerm.TheVariants as term
-use Rattle.vp_terms.specs.declared.package.Cert.{Cert}
-use Rattle.vp_terms.specs.Tree.{ExprTree, expr_tree}
 use Rattle.vp_grammar.specs.declared.terminal.Operator.TheVariants as operator
 use Rattle.vp_grammar.specs.declared.terminal.Symbol.TheVariants as symbol
 use Rattle.vp_lex.specs.declared.word.Word.{Word}

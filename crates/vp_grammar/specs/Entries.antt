@@ -2,8 +2,7 @@
 use Rattle.std.specs.Prelude.{ℕ, ◌≡◌, ◌≤◌, List, [], ◌∷◌, length, map, Option}
 use Rattle.vp_terms.specs.declared.formula.Cmp.TheVariants as cmp
 use Rattle.vp_terms.specs.declared.expr.Var.{Var}
-use Rattle.vp_terms.specs.declared.package.Slack.{Slack}
-use Rattle.vp_terms.specs.Tree.{ExprTree, expr_tree}
+use Rattle.vp_terms.specs.Tree.{ExprTree}
 use Rattle.vp_grammar.specs.declared.terminal.Span.{Span}
 use Rattle.vp_grammar.specs.declared.terminal.Symbol.TheVariants as symbol
 use Rattle.vp_lex.specs.declared.word.Word.{Word}

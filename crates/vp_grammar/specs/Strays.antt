@@ -1,5 +1,5 @@
 -- The first variable of a piece that may not stand there.
-use Rattle.std.specs.Prelude.{ℕ, ◌+◌, Bool, true, false, nat_eq, nat_lt, List, [], ◌∷◌, Option, None, Some, if◌then◌else◌}
+use Rattle.std.specs.Prelude.{ℕ, ◌+◌, Bool, true, false, ◌&&◌, nat_eq, nat_lt, List, [], ◌∷◌, Option, None, Some, if◌then◌else◌}
 use Rattle.vp_terms.specs.declared.formula.Cmp.TheVariants as cmp
 use Rattle.vp_terms.specs.declared.expr.Var.{Var}
 use Rattle.vp_terms.specs.declared.expr.Var.TheVariants.{State, Control}
@@ -32,11 +32,22 @@ abbrev pub is_control : Places → Option Var → Bool
 is_control p (Some (Control i)) = nat_lt i p.controls
 is_control p v = false
 
+-- the name of a control, whatever its number
+abbrev pub names_control : Option Var → Bool
+names_control (Some (Control i)) = true
+names_control v = false
+
 -- what stands in front behind a name that is set: `:=` in a controller, `'` in a flow, `from` in a
 -- slack and `=` in a fallback
 abbrev pub assigns : List Terminal → Bool
 assigns (terminal.Symbol symbol.Assign ∷ ts) = true
 assigns ts = false
+
+-- each name before `:=` is a control's
+abbrev pub sets_controls : List Terminal → Bool
+sets_controls [] = true
+sets_controls (terminal.Name s v ∷ ts) = (if assigns ts then names_control v else true) && sets_controls ts
+sets_controls (t ∷ ts) = sets_controls ts
 
 abbrev pub rates : List Terminal → Bool
 rates (terminal.Symbol symbol.Prime ∷ ts) = true

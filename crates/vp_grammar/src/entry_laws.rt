@@ -18,7 +18,7 @@ ghost use Rattle.vp_terms.specs.Packages.{slack_tree};
 ghost use Rattle.vp_terms.specs.Certificates.{IsCertificate};
 ghost use Rattle.vp_grammar.specs.Certificates.{SpellsCert, is_whole_number};
 ghost use Rattle.vp_terms.specs.Packages.{CertTree, cert_tree};
-ghost use Rattle.vp_grammar.specs.Strays.{first_stray};
+ghost use Rattle.vp_grammar.specs.Strays.{first_stray, is_declared};
 ghost use Rattle.vp_grammar.specs.declared.strays.Rule.TheVariants as rule;
 
 /// The same terminals are no two lists of names.
@@ -69,11 +69,15 @@ pub fn good_times()
         IsTrue (is_good_expr in_time p e) × IsTrue (is_good_expr in_time p f) }
 {}
 
-/// Certificates of which no variable strays are well formed. Each begins with its one `pos`, and has
+/// Certificates of which no variable strays are well formed. Where their names are declared, none
+/// strays from a well formed one. Each begins with its one `pos`, and has
 /// whole numbers alone, where the numbers that are told as wholes are.
 pub fn good_certificates()
     ensures variables { (p : Places) (c : Cert) (ts : List Terminal) → SpellsCert ts (cert_tree c) →
         first_stray (rule.Plain in_certificate) p 0 ts ≡ None → IsTrue (is_good_cert p c) }
+    ensures kept { (p : Places) (c : Cert) (ts : List Terminal) → SpellsCert ts (cert_tree c) →
+        IsTrue (list_all is_declared ts) → IsTrue (is_good_cert p c) →
+        first_stray (rule.Plain in_certificate) p 0 ts ≡ None }
     ensures form { (c : Cert) (ts : List Terminal) → SpellsCert ts (cert_tree c) →
         IsTrue (list_all is_whole_number ts) → IsCertificate c }
 {}
