@@ -1,5 +1,5 @@
 -- From pieces to a package, and what refuses a text.
-use Rattle.std.proofs.Common.{Vec, Global, ℕ, zero, suc, ◌+◌, ◌-◌, ◌≡◌, inl, inr, ◌≤◌, Bool, true, false, List, [], ◌∷◌, length, map, All, drop, take, Option, None, Some, slice_get, unwrap_or, if◌then◌else◌, Ok, Err, refl, ap, sym, ◌∙◌, subst, arith}
+use Rattle.std.proofs.Common.{Vec, Global, ℕ, zero, suc, ◌+◌, ◌≡◌, inl, inr, ◌≤◌, Bool, true, false, List, [], ◌∷◌, length, map, All, drop, take, Option, None, Some, unwrap_or, if◌then◌else◌, Ok, Err, refl, ap, sym, ◌∙◌, subst, arith}
 use Rattle.std.proofs.lemmas.List.Elements.{All-head, All-tail, All-cons, All-nil, All-map}
 use Rattle.std.proofs.lemmas.List.{length-map}
 use Rattle.std.proofs.Math.Seq.{take-length}
@@ -21,7 +21,7 @@ use Rattle.vp_read.specs.Naming.{IsWithin, StandsIn, known}
 use Rattle.vp_read.specs.Pieces.{first_deep, items}
 use Rattle.vp_read.specs.Sections.{Declares, Describes, Tells, IsUnformedHead, IsUnformedBody, known_pieces, spelled}
 use Rattle.vp_read.specs.Reading.{Checks, IsCut, IsDraft, IsPackage, Refuses, RefusesPieces, first_stray_from, rule_of, stray_of}
-use Rattle.vp_read.proofs.PieceLists.{drop_items}
+use Rattle.vp_read.proofs.Lists.{drop_map}
 use Rattle.vp_read.proofs.Scanned.{of_items}
 
 -- names that are spelled are as many as their spans
@@ -139,7 +139,7 @@ drop_each text (suc n) [] h = All-nil (All (StandsIn text))
 drop_each text (suc n) (q ∷ qs) h = drop_each text n qs (All-tail (All (StandsIn text)) q qs h)
 
 pub fifth_is : (ps qs : List (Vec Terminal Global)) → qs ≡ drop 4 ps → map items qs ≡ drop 4 (map items ps)
-fifth_is ps qs e = ap (map items) e ∙ drop_items 4 ps
+fifth_is ps qs e = ap (map items) e ∙ drop_map items 4 ps
 
 pub stray_within : (text : List ℕ) (p : Places) (n : ℕ) (ks qs : List (Vec Terminal Global)) (s : Span) → qs ≡ drop 4 ks → All (λ v. All (StandsIn text) v.items) ks → Some (s, n) ≡ first_stray_from p 5 (map items qs) → IsWithin text s
 stray_within text p n ks qs s e h f = strays_stand text p 5 n (map items qs) s (subst (All (All (StandsIn text))) (sym (fifth_is ks qs e)) (drop_each text 4 (map items ks) (All-map (All (StandsIn text)) items ks h))) (sym f)

@@ -1,5 +1,5 @@
 -- What a text is read as is well formed.
-use Rattle.std.proofs.Common.{ℕ, zero, suc, ◌+◌, ◌≡◌, ◌≢◌, ◌<◌, ◌≤◌, Bool, true, false, ◌&&◌, ◌||◌, IsTrue, nat_eq, nat_lt, List, [], ◌∷◌, ◌++◌, length, map, All, AllPairs, drop, Option, None, Some, slice_get, unwrap_or, if◌then◌else◌, refl, ap, sym, ◌∙◌, subst, arith}
+use Rattle.std.proofs.Common.{ℕ, zero, suc, ◌+◌, ◌≡◌, ◌≢◌, ◌<◌, ◌≤◌, Bool, true, false, ◌||◌, IsTrue, nat_eq, nat_lt, List, [], ◌∷◌, ◌++◌, length, map, All, AllPairs, drop, Option, None, Some, slice_get, unwrap_or, if◌then◌else◌, refl, ap, sym, ◌∙◌, subst, arith}
 use Rattle.std.proofs.lemmas.Bool.{and_from, eqb-true, le-ltb, ltb-false}
 use Rattle.std.proofs.lemmas.List.{length-map}
 use Rattle.std.proofs.lemmas.List.Elements.{All-head, All-tail, All-cons, All-nil}

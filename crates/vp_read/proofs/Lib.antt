@@ -2,6 +2,7 @@ pub mod AgainSteps
 pub mod Digits
 pub mod Drafting
 pub mod GoodPackages
+pub mod Lists
 pub mod Marks
 pub mod NamesWithin
 pub mod NumberSteps

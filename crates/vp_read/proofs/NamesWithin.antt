@@ -10,7 +10,7 @@ use Rattle.vp_grammar.specs.declared.terminal.Terminal.TheVariants as terminal
 use Rattle.vp_grammar.specs.Entries.{SpellsNames, names_then}
 use Rattle.vp_read.specs.Naming.{IsWithin, StandsIn}
 use Rattle.vp_read.specs.Pieces.{items, piece}
-use Rattle.vp_read.proofs.PieceLists.{at_number}
+use Rattle.vp_read.proofs.Lists.{at_number}
 
 spans_within : (text : List ℕ) (ns : List (Span × Option Var)) (rest : List Terminal) → All (StandsIn text) (names_then ns rest) → All (IsWithin text) (map (λ (k : Span × Option Var). k.0) ns)
 spans_within text [] rest h = All-nil (IsWithin text)
@@ -26,4 +26,4 @@ listed_within text w least ts spans s h =
     subst (All (IsWithin text)) (sym s.2) (spans_within text s.0 _ (All-tail (StandsIn text) (terminal.Word w) _ all))
 
 pub piece_within : (text : List ℕ) (ps : List (Vec Terminal Global)) (k : ℕ) → All (λ v. All (StandsIn text) v.items) ps → All (StandsIn text) (piece (map items ps) k)
-piece_within text ps k h = at_number (All (StandsIn text)) (map items ps) (k - 1) (All-nil (StandsIn text)) (All-map (All (StandsIn text)) items ps h)
+piece_within text ps k h = at_number (All (StandsIn text)) (map items ps) (k - 1) [] (All-nil (StandsIn text)) (All-map (All (StandsIn text)) items ps h)

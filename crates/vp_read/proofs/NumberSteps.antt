@@ -1,12 +1,12 @@
 -- The loop that numbers names from the end of their list.
-use Rattle.std.proofs.Common.{ℕ, zero, suc, ◌+◌, ◌-◌, ◌≡◌, ◌<◌, ◌≤◌, Bool, true, false, List, [], ◌∷◌, drop, length, map, get_or, String, Global, string_bytes, Option, None, Some, Bor, cond, if◌then◌else◌, refl, ap, sym, ◌∙◌, subst, arith, drop-cons}
-use Rattle.std.proofs.Math.Numerals.{add-one}
+use Rattle.std.proofs.Common.{ℕ, ◌+◌, ◌≡◌, ◌<◌, Bool, true, false, List, ◌∷◌, drop, length, map, get_or, String, Global, string_bytes, Option, None, Some, Bor, cond, refl, ap, sym, ◌∙◌, arith}
 use Rattle.std.proofs.Math.ListN.{drop_of_length-le}
 use Rattle.std.specs.Str.{bytes_eq}
 use Rattle.std.specs.Option.{option_map}
 use Rattle.indexmap.specs.IndexMap.{IndexMap, get}
 use Rattle.vp_read.specs.Naming.{number_in}
-use Rattle.vp_read.specs.Numbers.{Numbers, number}
+use Rattle.vp_read.proofs.Lists.{mapped_here}
+use Rattle.vp_read.specs.Numbers.{Numbers}
 
 -- the names from a place on have their numbers
 abbrev pub NumbersFrom : {S : Type 0} → List (String Global) → ℕ → IndexMap (Bor (List ℕ)) ℕ S → Type 0
@@ -18,7 +18,7 @@ shifted (Some k) i = ap Some (omega arith)
 
 pub numbers_on : {S : Type 0} (ns : List (String Global)) (i : ℕ) (s : String Global) (m n : IndexMap (Bor (List ℕ)) ℕ S) (k : Bor (List ℕ)) → i < length ns → s ≡ get_or ns i s → k.now ≡ string_bytes s → ((q : Bor (List ℕ)) → get (λ a b. bytes_eq a.now b.now) n q ≡ cond (bytes_eq k.now q.now) (Some i) (get (λ a b. bytes_eq a.now b.now) m q)) → NumbersFrom ns (i + 1) m → NumbersFrom ns i n
 numbers_on ns i s m n k h e b u f q =
-    let here : map string_bytes (drop i ns) ≡ string_bytes s ∷ map string_bytes (drop (i + 1) ns) = rw (add-one i) (ap (map string_bytes) (drop-cons ns i s h)) ∙ ap (λ (z : String Global). string_bytes z ∷ map string_bytes (drop (i + 1) ns)) (sym e) in
+    let here : map string_bytes (drop i ns) ≡ string_bytes s ∷ map string_bytes (drop (i + 1) ns) = mapped_here string_bytes ns i s h e in
     u q ∙ of (bytes_eq k.now q.now) refl ∙ ap (λ (ms : List (List ℕ)). option_map (λ j. j + i) (number_in ms q.now)) (sym here)
   where
     of : (c : Bool) → bytes_eq k.now q.now ≡ c → cond c (Some i) (get (λ a b. bytes_eq a.now b.now) m q) ≡ option_map (λ j. j + i) (number_in (string_bytes s ∷ map string_bytes (drop (i + 1) ns)) q.now)

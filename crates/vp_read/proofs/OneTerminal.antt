@@ -1,5 +1,5 @@
 -- A token stands for one terminal only.
-use Rattle.std.proofs.Common.{ℕ, ◌≡◌, ◌≢◌, ◌⊎◌, inl, inr, Bool, List, [], ◌∷◌, Option, None, Some, IsSomeAnd, pos, if◌then◌else◌, codes, refl, ap, sym, ◌∙◌, subst}
+use Rattle.std.proofs.Common.{ℕ, ◌≡◌, ◌≢◌, ◌⊎◌, inl, inr, Bool, List, [], ◌∷◌, Option, None, Some, IsSomeAnd, pos, if◌then◌else◌, refl, ap, sym, ◌∙◌, subst}
 use Rattle.std.specs.Str.{bytes_eq}
 use Rattle.vp_terms.specs.declared.formula.Cmp.{Cmp}
 use Rattle.vp_terms.specs.declared.formula.Cmp.TheVariants as cmp

@@ -1,11 +1,10 @@
 -- Certificates and parts of a text are well formed.
-use Rattle.std.proofs.Common.{ℕ, zero, suc, ◌≡◌, ◌≤◌, Bool, true, false, not, ◌||◌, IsTrue, pos, List, [], ◌∷◌, length, map, All, drop, Option, None, Some, IfOk, Result, Ok, Err, refl, ap, sym, ◌∙◌, subst, arith}
+use Rattle.std.proofs.Common.{ℕ, zero, suc, ◌≡◌, ◌≤◌, Bool, true, false, not, ◌||◌, IsTrue, pos, List, [], ◌∷◌, length, map, All, drop, None, Some, IfOk, Result, Ok, Err, refl, sym, subst, arith}
 use Rattle.std.proofs.lemmas.Bool.{and_from}
 use Rattle.std.proofs.lemmas.List.{length-map}
 use Rattle.std.proofs.lemmas.List.Elements.{All-head, All-tail, All-cons, All-nil}
 use Rattle.std.specs.List.{list_all}
 use Rattle.std.specs.Ordering.{int_eq}
-use Rattle.vp_terms.specs.declared.expr.Var.{Var}
 use Rattle.vp_terms.specs.declared.package.Cert.{Cert}
 use Rattle.vp_terms.specs.declared.package.Names.{Names}
 use Rattle.vp_terms.specs.declared.package.Package.{Package}
@@ -17,10 +16,9 @@ use Rattle.vp_lex.specs.declared.token.Token.{Token}
 use Rattle.vp_grammar.specs.declared.terminal.Terminal.{Terminal}
 use Rattle.vp_grammar.specs.declared.terminal.Terminal.TheVariants as terminal
 use Rattle.vp_grammar.specs.Certificates.{SpellsCert, is_whole_number}
-use Rattle.vp_terms.specs.Packages.{CertTree, cert_tree}
+use Rattle.vp_terms.specs.Packages.{cert_tree}
 use Rattle.vp_read.specs.declared.fault.ReadErr.{ReadErr}
 use Rattle.vp_read.specs.Naming.{known}
-use Rattle.vp_read.specs.Pieces.{cut}
 use Rattle.vp_read.specs.Reading.{IsPackage, IsPart, ReadsPart}
 use Rattle.vp_read.specs.Sections.{AreCerts, known_pieces}
 use Rattle.vp_read.specs.Spelling.{AreTerminals, IsTerminal, token_text}

@@ -1,14 +1,13 @@
 -- The loop that looks for the end of a piece, and the one that takes the depth.
-use Rattle.std.proofs.Common.{Vec, Global, None, Some, map, ℕ, ◌+◌, ◌≡◌, ◌<◌, ◌≤◌, true, false, List, [], ◌∷◌, ◌++◌, take, drop, length, get_or, max, refl, ap, sym, ◌∙◌, arith, subst, drop-cons}
+use Rattle.std.proofs.Common.{Vec, Global, None, Some, map, ℕ, ◌+◌, ◌≡◌, ◌<◌, ◌≤◌, true, false, List, [], ◌∷◌, ◌++◌, take, drop, length, get_or, max, refl, ap, sym, ◌∙◌, arith, subst}
 use Rattle.std.proofs.Math.Seq.{take-length}
 use Rattle.std.proofs.Math.ListN.{drop_of_length-le}
 use Rattle.std.proofs.lemmas.List.{take_more}
-use Rattle.std.proofs.Math.Numerals.{add-one}
 use Rattle.vp_grammar.specs.declared.terminal.Symbol.{Symbol}
 use Rattle.vp_grammar.specs.declared.terminal.Symbol.TheVariants as symbol
 use Rattle.vp_grammar.specs.declared.terminal.Terminal.{Terminal}
 use Rattle.vp_grammar.specs.declared.terminal.Terminal.TheVariants as terminal
-use Rattle.vp_read.proofs.PieceLists.{piece_at}
+use Rattle.vp_read.proofs.Lists.{here}
 use Rattle.vp_read.specs.Pieces.{cut, depth_behind, ends, first_deep, greatest_depth, is_deep, items, onto_first}
 
 -- what a cut gives from a depth on, as its first piece and the others
@@ -32,9 +31,6 @@ begun_alone t (u ∷ us) = ap (onto_first t) (begun_alone u us)
 -- the invariant of the loop: what the terminals so far and the depth behind them make of the rest
 abbrev pub IsBegun : List Terminal → ℕ → ℕ → Type 0
 IsBegun ts i d = cut 0 ts ≡ begun (take i ts) (cut d (drop i ts))
-
-here : (ts : List Terminal) (i : ℕ) (z : Terminal) → i < length ts → drop i ts ≡ get_or ts i z ∷ drop (i + 1) ts
-here ts i z h = rw (add-one i) (drop-cons ts i z h)
 
 pub piece_ends : (ts : List Terminal) (i d : ℕ) (z : Terminal) → i < length ts → IsBegun ts i d → ends d (get_or ts i z) ≡ true → cut 0 ts ≡ take (i + 1) ts ∷ cut 0 (drop (i + 1) ts)
 piece_ends ts i d z h b f =
@@ -102,10 +98,10 @@ abbrev pub DeepFrom : List (Vec Terminal Global) → ℕ → Type 0
 DeepFrom ps i = first_deep 1 (map items ps) ≡ first_deep (i + 1) (map items (drop i ps))
 
 pub deep_here : (ps : List (Vec Terminal Global)) (i : ℕ) (z : Vec Terminal Global) → i < length ps → is_deep (items (get_or ps i z)) ≡ true → DeepFrom ps i → Some (i + 1) ≡ first_deep 1 (map items ps)
-deep_here ps i z h d b = sym (b ∙ ap (first_deep (i + 1)) (piece_at ps i z h) ∙ rw d refl)
+deep_here ps i z h d b = sym (b ∙ ap (first_deep (i + 1)) (ap (map items) (here ps i z h)) ∙ rw d refl)
 
 pub deep_on : (ps : List (Vec Terminal Global)) (i : ℕ) (z : Vec Terminal Global) → i < length ps → is_deep (items (get_or ps i z)) ≡ false → DeepFrom ps i → DeepFrom ps (i + 1)
-deep_on ps i z h d b = b ∙ ap (first_deep (i + 1)) (piece_at ps i z h) ∙ rw d refl
+deep_on ps i z h d b = b ∙ ap (first_deep (i + 1)) (ap (map items) (here ps i z h)) ∙ rw d refl
 
 pub deep_end : (ps : List (Vec Terminal Global)) (i : ℕ) → i ≡ length ps → DeepFrom ps i → None ≡ first_deep 1 (map items ps)
 deep_end ps i e b = sym (b ∙ ap (λ (qs : List (Vec Terminal Global)). first_deep (i + 1) (map items qs)) (drop_of_length-le ps {i = i} (omega arith)))

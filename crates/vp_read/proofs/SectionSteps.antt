@@ -1,7 +1,6 @@
 -- Pieces that are not what they are to be.
-use Rattle.std.proofs.Common.{Vec, Global, ℕ, zero, suc, ◌+◌, ◌≡◌, inl, inr, ◌<◌, List, [], ◌∷◌, ◌++◌, drop, take, length, map, get_or, Err, refl, ap, sym, ◌∙◌, subst, arith, drop-cons}
+use Rattle.std.proofs.Common.{Vec, Global, ℕ, ◌+◌, ◌≡◌, inl, inr, ◌<◌, List, [], ◌∷◌, ◌++◌, drop, take, length, map, get_or, Err, refl, ap, sym, ◌∙◌, subst, arith}
 use Rattle.std.proofs.lemmas.List.{take_more}
-use Rattle.std.proofs.Math.Numerals.{add-one}
 use Rattle.std.proofs.Math.Seq.{take-length}
 use Rattle.vp_terms.specs.declared.package.Cert.{Cert}
 use Rattle.vp_grammar.specs.declared.fault.ParseErr.{ParseErr}
@@ -15,7 +14,8 @@ use Rattle.vp_terms.specs.Packages.{CertTree, cert_tree}
 use Rattle.vp_read.specs.declared.fault.ReadErr.{ReadErr}
 use Rattle.vp_read.specs.declared.fault.ReadErr.TheVariants as fault
 use Rattle.vp_read.specs.Pieces.{items}
-use Rattle.vp_read.proofs.PieceLists.{drop_items, piece_here}
+use Rattle.vp_read.proofs.PieceLists.{piece_here}
+use Rattle.vp_read.proofs.Lists.{drop_map}
 use Rattle.vp_read.specs.Sections.{AreCerts, IsFirstNoCert, IsListed, ReadsCerts, ReadsPiece, Tells, of_form}
 
 pub refused : {X T : Type 0} (view : X → T) (P : T → Type 0) (k : ℕ) (e : ReadErr) (why : ParseErr) → e ≡ of_form k why → FailsAll P why → ReadsPiece view P k (Err e)
@@ -75,7 +75,7 @@ tells_more P Q (fault.Undeclared name n) h f = h
 
 -- the pieces behind the 13th
 pub behind_is : (ps qs : List (Vec Terminal Global)) → qs ≡ drop 13 ps → map items qs ≡ drop 13 (map items ps)
-behind_is ps qs e = ap (map items) e ∙ drop_items 13 ps
+behind_is ps qs e = ap (map items) e ∙ drop_map items 13 ps
 
 -- terminals that are no list of names list no names
 pub no_list : (text : List ℕ) (w : Word) (least : ℕ) (p : List Terminal) (why : ParseErr) → FailsAll (SpellsNames w least p) why → FailsAll (IsListed text w least p) why

@@ -1,5 +1,5 @@
 -- The loop that looks for a piece with a variable that may not stand there.
-use Rattle.std.proofs.Common.{Vec, Global, ℕ, ◌+◌, ◌≡◌, ◌<◌, List, ◌∷◌, drop, length, map, get_or, None, Some, refl, ap, sym, ◌∙◌, arith}
+use Rattle.std.proofs.Common.{Vec, Global, ℕ, ◌+◌, ◌≡◌, ◌<◌, List, drop, length, map, get_or, None, Some, refl, ap, sym, ◌∙◌, arith}
 use Rattle.std.proofs.Math.ListN.{drop_of_length-le}
 use Rattle.vp_terms.specs.declared.expr.Places.{Places}
 use Rattle.vp_grammar.specs.declared.terminal.Span.{Span}

@@ -1,10 +1,10 @@
 -- The loop over the tokens of a text.
-use Rattle.std.proofs.Common.{ℕ, ◌+◌, ◌≡◌, inl, inr, ◌<◌, List, [], ◌∷◌, ◌++◌, take, drop, length, get_or, refl, ap, sym, ◌∙◌, subst, drop-cons}
-use Rattle.std.proofs.Math.Numerals.{add-one}
+use Rattle.std.proofs.Common.{ℕ, ◌+◌, ◌≡◌, inl, inr, ◌<◌, List, [], ◌∷◌, ◌++◌, take, drop, length, get_or, refl, ap, sym, ◌∙◌, subst}
 use Rattle.std.proofs.Math.Seq.{take-length}
 use Rattle.std.proofs.lemmas.List.{take_more}
 use Rattle.vp_lex.specs.declared.token.Token.{Token}
 use Rattle.vp_grammar.specs.declared.terminal.Terminal.{Terminal}
+use Rattle.vp_read.proofs.Lists.{here}
 use Rattle.vp_read.specs.Spelling.{AreTerminals, IsBadNumber, IsFirstBad, IsTerminal}
 
 terminal_more : (text : List ℕ) (ts : List Token) (xs : List Terminal) (t : Token) (x : Terminal) → AreTerminals text ts xs → IsTerminal text t x → AreTerminals text (ts ++ t ∷ []) (xs ++ x ∷ [])
@@ -17,9 +17,6 @@ terminal_more text (u ∷ us) (y ∷ ys) t x h k = (h.0, terminal_more text us y
 pub record Standing (text : List ℕ) (tokens : List Token) (i : ℕ) (found : List Terminal) : Type 0 where
   pub stand : AreTerminals text (take i tokens) found
   pub none : (at : ℕ) → IsFirstBad text (drop i tokens) at → IsFirstBad text tokens at
-
-here : (ts : List Token) (i : ℕ) (z : Token) → i < length ts → drop i ts ≡ get_or ts i z ∷ drop (i + 1) ts
-here ts i z h = rw (add-one i) (drop-cons ts i z h)
 
 pub stands_on : (text : List ℕ) (tokens : List Token) (i : ℕ) (found : List Terminal) (z : Token) (x : Terminal) → i < length tokens → Standing text tokens i found → IsTerminal text (get_or tokens i z) x → (IsBadNumber text (get_or tokens i z) → ⊥) → Standing text tokens (i + 1) (found ++ x ∷ [])
 stands_on text tokens i found z x h s k good = record {

@@ -26,6 +26,7 @@ pub(crate) fn string_of(alloc: Global, text: &[u8], span: Span) -> Result<String
 {
     match str::from_utf8(span_text(text, span)) {
         Ok(name) => name.to_string(alloc),
+        // The bytes of such a span are a string's.
         Err(_) => Ok(String::new(alloc)),
     }
 }

@@ -15,9 +15,7 @@ pub(crate) fn numbers<'a>(
     ensures { IfOk result (Numbers (map string_bytes names.now)) }
 {
     let mut found = IndexMap::new(alloc);
-    let mut i = names.len();
-    'names: while i > 0 {
-        i -= 1;
+    for i in (0..names.len()).rev() {
         found.insert(names[i].as_bytes(), i as u32)?;
     }
     Ok(found)

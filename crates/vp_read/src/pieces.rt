@@ -102,7 +102,7 @@ pub fn cut(alloc: Global, terminals: &[Terminal]) -> Result<Vec<Vec<Terminal>>, 
 fn greater(a: usize, b: usize) -> usize
     ensures { result ≡ max a b }
 {
-    if a < b { b } else { a }
+    a.max(b)
 }
 
 // The greatest depth of a piece.

@@ -1,5 +1,5 @@
 use Rattle.std.proofs.Common.{map, arith}
-use Rattle.vp_terms.specs.Tree.{expr_tree, formula_tree}
+use Rattle.vp_terms.specs.Tree.{formula_tree}
 use Rattle.vp_terms.specs.WellFormed.{in_certificate, places_of}
 use Rattle.vp_grammar.specs.FormulaReads.{SpellsFormula}
 use Rattle.vp_read.specs.Naming.{known}
