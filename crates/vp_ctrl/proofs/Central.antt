@@ -1,6 +1,5 @@
 -- Some path holds exactly where the controller leads from the controls to the next ones.
-use Rattle.std.proofs.Common.{◌≡◌, ℕ, ◌<◌, ◌≤◌, ◌⊎◌, inl, inr, ⊎_elim, ◌↔◌, Bool, true, false, not, ◌&&◌, ◌==◌, if◌then◌else◌, IsTrue, List, [], ◌∷◌, ◌++◌, map, None, refl, sym, ap, ap₂, ◌∙◌, arith}
-use Rattle.std.specs.Prelude.{sum_by, nat_le}
+use Rattle.std.proofs.Common.{◌≡◌, ℕ, ◌<◌, ◌≤◌, inl, inr, ⊎_elim, ◌↔◌, Bool, true, false, not, ◌&&◌, ◌==◌, IsTrue, List, [], ◌∷◌, map, None, refl, sym, ap, ap₂, ◌∙◌, arith}
 use Rattle.std.specs.List.{list_all, flat_map, range_with_len}
 use Rattle.vp_terms.specs.Rational.{Rational}
 use Rattle.vp_terms.specs.Meaning.{Assignment, holds}
@@ -25,12 +24,12 @@ use Rattle.vp_logic.specs.Tree.{Tree, negated}
 use Rattle.vp_logic.specs.Truth.{tree_holds, parts_hold}
 use Rattle.vp_ctrl.specs.declared.path.Path.{Path}
 use Rattle.vp_ctrl.specs.Changing.{AgreeFrom, changing}
-use Rattle.vp_ctrl.specs.Ways.{Move, Gives, GivesAny, Passes, Fails, Way, ways}
+use Rattle.vp_ctrl.specs.Ways.{Gives, GivesAny, Passes, Fails, Way, ways}
 use Rattle.vp_ctrl.specs.Hidden.{hidden_on, first_hidden}
 use Rattle.vp_ctrl.specs.Following.{StandIns, Condition, after, after_all, at_first, condition_holds, conditions, conditions_hold, equation, instead, is_given_last, of_formula, stands, tests}
 use Rattle.vp_ctrl.specs.Paths.{IsPart, AreParts, ArePaths, parts_of, some_path_holds}
 use Rattle.vp_ctrl.specs.Walked.{IsGoodWay, AreGoodWays}
-use Rattle.vp_ctrl.specs.Widths.{all_conditions, condition_fits, condition_terms, is_small, ways_are_narrow}
+use Rattle.vp_ctrl.specs.Widths.{all_conditions, condition_fits, ways_are_narrow}
 use Rattle.vp_ctrl.proofs.Good.{good_ways, path_variables, path_variables_of}
 use Rattle.vp_ctrl.proofs.Known.{Meant}
 use Rattle.vp_ctrl.proofs.Meaning.{all_apart, all_both, all_listed, none_first, way_leads, leads_way}

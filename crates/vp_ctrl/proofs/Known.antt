@@ -1,5 +1,5 @@
 -- What the laws of the crates below say.
-use Rattle.std.proofs.Common.{◌≡◌, ◌<◌, ◌≤◌, ℕ, Bool, true, not, IsTrue, List}
+use Rattle.std.proofs.Common.{◌≡◌, ◌<◌, ◌≤◌, Bool, true, not, IsTrue, List}
 use Rattle.vp_terms.specs.Rational.{Equals}
 use Rattle.vp_terms.specs.Meaning.{Assignment, value, holds}
 use Rattle.vp_terms.specs.Places.{has_variable, place, place_count}

@@ -1,5 +1,5 @@
 -- The runs of a program are those of its ways.
-use Rattle.std.proofs.Common.{◌≡◌, ℕ, ◌⊎◌, inl, inr, ⊎_elim, true, IsTrue, List, [], ◌∷◌, ◌++◌, map, refl, sym, ◌∙◌}
+use Rattle.std.proofs.Common.{ℕ, ◌⊎◌, inl, inr, ⊎_elim, true, IsTrue, List, [], ◌∷◌, ◌++◌, map, refl, sym, ◌∙◌}
 use Rattle.vp_terms.specs.Meaning.{value, holds}
 use Rattle.vp_terms.specs.Control.{Values, assigned, Same, SameBut, Sets, Ctrl}
 use Rattle.vp_terms.specs.Rational.{Rational, Equals}

@@ -1,9 +1,8 @@
 -- Environments that hold the polynomials of what the variables stand for.
-use Rattle.std.proofs.Common.{rules, ◌≡◌, ◌≢◌, ℕ, zero, suc, ◌+◌, ◌<◌, ◌≤◌, ◌⊎◌, inl, inr, Bool, true, IsTrue, List, [], ◌∷◌, length, map, Option, None, Some, refl, sym, ap, ap₂, ◌∙◌, subst, arith}
+use Rattle.std.proofs.Common.{rules, ◌≡◌, ◌≢◌, ℕ, zero, suc, ◌+◌, ◌<◌, ◌⊎◌, inl, inr, Bool, true, IsTrue, List, [], ◌∷◌, length, map, Option, None, Some, refl, sym, ap, ap₂, ◌∙◌, subst, arith}
 use Rattle.std.specs.Prelude.{slice_get, slice_set, IfSome, unwrap_or, All}
 use Rattle.std.specs.List.{range_with_len}
 use Rattle.std.proofs.Math.ListN.{length-set}
-use Rattle.vp_terms.specs.Rational.{sum, difference}
 use Rattle.vp_terms.specs.Places.{place, place_count, has_variable}
 use Rattle.vp_terms.specs.Variables.{all_variables, all_variables_of, is_below, has_places_below, formula_has_places_below}
 use Rattle.vp_terms.specs.declared.expr.Places.{Places}
@@ -14,7 +13,7 @@ use Rattle.vp_terms.specs.declared.expr.Expr.TheVariants.{Num, Var as Variable, 
 use Rattle.vp_terms.specs.declared.formula.Formula.{Formula}
 use Rattle.vp_terms.specs.declared.formula.Formula.TheVariants.{True, Cmp as Compare, And', Or', Not'}
 use Rattle.vp_poly.specs.declared.scaled.Scaled.{Scaled}
-use Rattle.vp_poly.specs.Coefficient.{Coefficients, coefficients, times, to_power}
+use Rattle.vp_poly.specs.Coefficient.{coefficients}
 use Rattle.vp_poly.specs.Places.{HaveOnly}
 use Rattle.vp_poly.specs.Times.{HasCoefficients}
 use Rattle.vp_poly.specs.Weights.{Weights, weight, weight_at, weight_in, weight_sum, weight_product, weight_power, weight_zero}
@@ -24,7 +23,7 @@ use Rattle.vp_ctrl.specs.Following.{StandIns, at_first, instead, stands}
 use Rattle.vp_ctrl.specs.Paths.{AllowsPaths, is_on_path}
 use Rattle.vp_ctrl.specs.Widths.{is_small}
 use Rattle.vp_ctrl.specs.Walked.{Follows}
-use Rattle.vp_ctrl.proofs.Known.{CoefficientsCompose, Placed, WeightsCompose}
+use Rattle.vp_ctrl.proofs.Known.{Placed, WeightsCompose}
 use Rattle.vp_ctrl.proofs.Truths as truths
 
 -- ---- variables that pass a weaker test

@@ -1,0 +1,17 @@
+pub mod Series
+pub mod Whole
+pub mod Parts
+pub mod Weights
+pub mod Assembly
+pub mod Sides
+pub mod Order
+pub mod Filled
+pub mod Flows
+pub mod Bounds
+pub mod Sharing
+pub mod Scheduled
+pub mod Weighing
+pub mod Righting
+pub mod Solution
+pub mod Matrix
+pub mod Outcome
