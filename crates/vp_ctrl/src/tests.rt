@@ -59,8 +59,10 @@ fn row(alloc: Global, statements: Vec<Prog>) -> Result<Prog, Fail> {
     let Some(mut prog) = left.pop() else {
         return Ok(Prog::Skip);
     };
-    while let Some(statement) = left.pop() {
-        prog = seq(alloc, statement, prog)?;
+    for _ in 0..left.len() {
+        if let Some(statement) = left.pop() {
+            prog = seq(alloc, statement, prog)?;
+        }
     }
     Ok(prog)
 }
