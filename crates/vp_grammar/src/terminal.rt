@@ -6,7 +6,9 @@ use vp_terms::{Cmp, Ratio, Var};
 /// behind it, counted in bytes from 0.
 #[derive(Clone, Copy, Debug, PartialEq, Eq)]
 pub struct Span {
+    /// The place of the first byte.
     pub from: u32,
+    /// The place behind the last byte.
     pub to: u32,
 }
 

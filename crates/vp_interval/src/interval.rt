@@ -10,7 +10,9 @@ use vp_words::{Word, encloses, same};
 /// `inf`, and `hi` is not `-inf`.
 #[derive(Clone, Copy, PartialEq, Eq, Debug)]
 pub struct Interval {
+    /// The low end.
     pub lo: Word,
+    /// The high end.
     pub hi: Word,
     pub ghost valid: { IsValid lo hi },
 }

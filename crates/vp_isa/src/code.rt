@@ -42,9 +42,13 @@ impl Instrs {
 /// Instructions for a machine of so many cells. A jump back leads to the instruction at `head`.
 #[derive(Debug, Drop)]
 pub struct Code {
+    /// How many parameters, states and controls its records speak of.
     pub counts: Counts,
+    /// How many cells the machine has.
     pub cells: u32,
+    /// The place of the TAKE where each round begins.
     pub head: u32,
+    /// The instructions, in the order of their places.
     pub instrs: Instrs,
 }
 

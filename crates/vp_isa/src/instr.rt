@@ -7,8 +7,11 @@ use vp_words::{Kind, Word};
 /// or false.
 #[derive(Clone, Copy, Debug, PartialEq, Eq)]
 pub enum Mon {
+    /// The conjunct `k` of the initial condition, from 1.
     Init { k: u32, unknown: bool },
+    /// The conjunct `k` of the plant's monitor, from 1.
     Plant { k: u32, unknown: bool },
+    /// A fallback whose value isn't known to be one word.
     Fallback,
 }
 

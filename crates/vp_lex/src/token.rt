@@ -24,8 +24,11 @@ pub enum TokenKind {
 /// which is the first behind it. Places are counted in bytes from the front of the text.
 #[derive(Clone, Copy, Debug, PartialEq, Eq)]
 pub struct Token {
+    /// Its kind.
     pub kind: TokenKind,
+    /// The place of the first byte.
     pub from: u32,
+    /// The place behind the last byte.
     pub to: u32,
 }
 

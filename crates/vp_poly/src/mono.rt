@@ -13,13 +13,16 @@ use std::cmp::Ordering;
 /// The exponent of each variable's place.
 #[derive(Clone, Copy, Debug, PartialEq, Eq)]
 pub struct Mono {
+    /// The exponents, by place.
     pub powers: [u8; 32],
 }
 
 /// A monomial with its coefficient.
 #[derive(Clone, Copy, Debug, PartialEq, Eq)]
 pub struct Term {
+    /// The monomial.
     pub mono: Mono,
+    /// The coefficient.
     pub coef: i128,
 }
 

@@ -20,7 +20,9 @@ use vp_terms::Ratio;
 /// A polynomial with its weight: the polynomial of an expression, times the weight's denominator.
 #[derive(Debug, Drop)]
 pub struct Scaled {
+    /// The expression's polynomial times the weight's denominator.
     pub poly: Poly,
+    /// The weight of the expression.
     pub weight: Weight,
 }
 

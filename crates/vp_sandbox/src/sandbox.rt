@@ -10,6 +10,7 @@ use vp_words::{Counts, Due, Word};
 /// The monitors of a model and its fallback. The rules stand in `docs/sandbox.md`.
 #[derive(Drop)]
 pub struct Sandbox {
+    /// How many parameters, states and controls the model has.
     pub counts: Counts,
     /// The conjuncts of the init monitor: over parameters, states and controls.
     pub init: Items<Norm>,
@@ -25,7 +26,9 @@ pub struct Sandbox {
 /// Where a sandbox stands: the box of each place, and what is due.
 #[derive(Clone, Copy, Debug, PartialEq, Eq)]
 pub struct SandboxState {
+    /// The boxes, by the place of their variable.
     pub boxes: [Interval; 32],
+    /// The kind of the record that is due.
     pub due: Due,
 }
 

@@ -27,8 +27,11 @@ pub enum Var {
 /// How many parameters, states and controls a model has. This fixes the place of each variable.
 #[derive(Clone, Copy, Debug, PartialEq, Eq)]
 pub struct Places {
+    /// How many parameters.
     pub params: u32,
+    /// How many states.
     pub states: u32,
+    /// How many controls.
     pub controls: u32,
 }
 
@@ -55,10 +58,15 @@ impl Var {
 /// An expression.
 #[derive(Debug, Drop)]
 pub enum Expr {
+    /// A number.
     Num(Ratio),
+    /// The value of a variable.
     Var(Var),
+    /// The sum.
     Add(Box<Expr>, Box<Expr>),
+    /// The first less the second.
     Sub(Box<Expr>, Box<Expr>),
+    /// The product.
     Mul(Box<Expr>, Box<Expr>),
     /// A repeated product: the power 0 is 1.
     Pow(Box<Expr>, u32),

@@ -26,10 +26,15 @@ pub enum Cmp {
 /// A formula.
 #[derive(Debug, Drop)]
 pub enum Formula {
+    /// Holds always.
     True,
+    /// Holds where the values of the two expressions compare so.
     Cmp(Cmp, Expr, Expr),
+    /// Holds where both do.
     And(Box<Formula>, Box<Formula>),
+    /// Holds where at least one does.
     Or(Box<Formula>, Box<Formula>),
+    /// Holds where the formula doesn't.
     Not(Box<Formula>),
 }
 

@@ -9,7 +9,9 @@ use crate::number::{difference, fraction, gcd, orders, product, sum, with_sign_o
 /// are below 2^62 in size. So two fractions are the same exactly where they have the same value.
 #[derive(Clone, Copy, Debug, PartialEq, Eq)]
 pub struct Ratio {
+    /// The numerator, with the sign.
     pub num: i128,
+    /// The denominator.
     pub den: i128,
     pub ghost lowest: { IsLowest num den },
 }

@@ -9,10 +9,13 @@ use crate::{Cert, CertTerm, Expr, Formula, Names, Package, Places, Plant, Prog, 
 /// Which kinds of variables may stand somewhere, beside the parameters.
 #[derive(Clone, Copy, Debug, PartialEq, Eq)]
 pub struct Kinds {
+    /// The states.
     pub states: bool,
+    /// The controls in force.
     pub controls: bool,
     /// The next states and the next controls.
     pub next: bool,
+    /// The time that a round takes.
     pub tau: bool,
 }
 

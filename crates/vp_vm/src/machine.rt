@@ -18,7 +18,9 @@ use vp_words::{Counts, Due, Reply, Turn, Word};
 /// The reply to a record, and how many instructions were executed for it.
 #[derive(Clone, Copy, Debug, PartialEq, Eq)]
 pub struct VmReply {
+    /// The reply.
     pub reply: Reply,
+    /// How many instructions.
     pub ran: u32,
 }
 

@@ -21,8 +21,11 @@ pub enum Kind {
 /// The kind of record that is due next.
 #[derive(Clone, Copy, PartialEq, Eq, Debug)]
 pub enum Due {
+    /// The first record.
     Init,
+    /// A choice.
     Choice,
+    /// What was sensed.
     Sense,
     /// Nothing is due: a violation was reported.
     Ended,
@@ -31,6 +34,7 @@ pub enum Due {
 /// Whether a record was answered.
 #[derive(Clone, Copy, PartialEq, Eq, Debug)]
 pub enum Turn {
+    /// The record was due, and has its reply.
     Answered,
     /// Nothing was due, and nothing changed.
     Ended,
@@ -39,15 +43,20 @@ pub enum Turn {
 /// How many parameters, states and controls a model has.
 #[derive(Clone, Copy, PartialEq, Eq, Debug)]
 pub struct Counts {
+    /// How many parameters.
     pub params: u8,
+    /// How many states.
     pub states: u8,
+    /// How many controls.
     pub controls: u8,
 }
 
 /// The words of one input line. Those from place `len` on are 0.
 #[derive(Clone, Copy, PartialEq, Eq, Debug)]
 pub struct Record {
+    /// What kind of line it is.
     pub kind: Kind,
+    /// The words, in the order of the line.
     pub words: [Word; 64],
     /// How many words the line has.
     pub len: u8,
@@ -78,6 +87,7 @@ pub enum Reply {
         len: u8,
         fallback: bool,
     },
+    /// A monitor isn't shown to hold, and nothing is due from here on.
     Violation(Why),
 }
 
