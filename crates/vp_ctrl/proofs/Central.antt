@@ -3,7 +3,7 @@ use Rattle.std.proofs.Common.{◌≡◌, ℕ, ◌<◌, ◌≤◌, inl, inr, ⊎_
 use Rattle.std.specs.List.{list_all, flat_map, range_with_len}
 use Rattle.vp_terms.specs.Rational.{Rational}
 use Rattle.vp_terms.specs.Meaning.{Assignment, holds}
-use Rattle.vp_terms.specs.Control.{Values, Ctrl}
+use Rattle.vp_terms.specs.Control.{AgreeFrom, Values, Ctrl, changing}
 use Rattle.vp_terms.specs.Places.{has_variable, place_count}
 use Rattle.vp_terms.specs.Variables.{all_variables, all_variables_of}
 use Rattle.vp_terms.specs.WellFormed.{in_model, is_good_expr, is_good_formula, is_good_prog}
@@ -23,7 +23,6 @@ use Rattle.vp_logic.specs.Normal.{IsNormal}
 use Rattle.vp_logic.specs.Tree.{Tree, negated}
 use Rattle.vp_logic.specs.Truth.{tree_holds, parts_hold}
 use Rattle.vp_ctrl.specs.declared.path.Path.{Path}
-use Rattle.vp_ctrl.specs.Changing.{AgreeFrom, changing}
 use Rattle.vp_ctrl.specs.Ways.{Gives, GivesAny, Passes, Fails, Way, ways}
 use Rattle.vp_ctrl.specs.Hidden.{hidden_on, first_hidden}
 use Rattle.vp_ctrl.specs.Following.{StandIns, Condition, after, after_all, at_first, condition_holds, conditions, conditions_hold, equation, instead, is_given_last, of_formula, stands, tests}

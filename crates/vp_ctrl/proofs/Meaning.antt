@@ -6,7 +6,7 @@ use Rattle.std.proofs.lemmas.List.Folds.{list_all-append}
 use Rattle.std.proofs.lemmas.Int.{ints}
 use Rattle.vp_terms.specs.Rational.{Rational, Equals}
 use Rattle.vp_terms.specs.Meaning.{value, holds, compares}
-use Rattle.vp_terms.specs.Control.{Values, assigned, SameBut}
+use Rattle.vp_terms.specs.Control.{AgreeFrom, Values, assigned, changing, SameBut}
 use Rattle.vp_terms.specs.WellFormed.{is_allowed, in_model, is_good_expr, is_good_formula}
 use Rattle.vp_terms.specs.declared.expr.Places.{Places}
 use Rattle.vp_terms.specs.declared.expr.Var.{Var}
@@ -17,7 +17,6 @@ use Rattle.vp_terms.specs.declared.formula.Cmp.TheVariants as cmp
 use Rattle.vp_terms.specs.declared.formula.Formula.{Formula}
 use Rattle.vp_terms.proofs.RationalLaws.{chain, Equals-refl, Equals-sym}
 use Rattle.vp_poly.specs.Replaced.{replaced, formula_replaced}
-use Rattle.vp_ctrl.specs.Changing.{AgreeFrom, changing}
 use Rattle.vp_ctrl.specs.Ways.{Move, Gives, GivesAny, Passes, Fails, Way}
 use Rattle.vp_ctrl.specs.Hidden.{gives_any, is_given, changed_again, or_next, again, hidden_on}
 use Rattle.vp_ctrl.specs.Following.{StandIns, at_first, instead, stands, after, after_all, tests, given_last, is_given_last, equation, conditions, condition_holds, conditions_hold}

@@ -1,6 +1,6 @@
 //! Laws of paths: the contracts of these functions say them, and their bodies do nothing.
 ghost use Rattle.std.specs.Prelude.{◌≡◌, ◌↔◌, ◌+◌, ◌*◌, ◌≤◌, ℕ, IsTrue, List, None, length, map, true};
-ghost use Rattle.vp_terms.specs.Control.{Ctrl, Values};
+ghost use Rattle.vp_terms.specs.Control.{AgreeFrom, Ctrl, Values, changing};
 ghost use Rattle.vp_terms.specs.Places.{place_count};
 ghost use Rattle.vp_terms.specs.Rational.{Rational};
 ghost use Rattle.vp_terms.specs.WellFormed.{is_good_prog, prog_comparisons};
@@ -10,7 +10,6 @@ ghost use Rattle.vp_poly.specs.Points.{IsAt};
 ghost use Rattle.vp_poly.specs.Value.{Point};
 ghost use Rattle.vp_logic.specs.Tree.{Tree};
 ghost use Rattle.vp_ctrl.specs.declared.path.Path.{Path};
-ghost use Rattle.vp_ctrl.specs.Changing.{AgreeFrom, changing};
 ghost use Rattle.vp_ctrl.specs.Ways.{Way, way_count, ways};
 ghost use Rattle.vp_ctrl.specs.Following.{Condition};
 ghost use Rattle.vp_ctrl.specs.Hidden.{first_hidden};

@@ -1,6 +1,6 @@
 //! The paths of a controller.
 ghost use Rattle.std.specs.Prelude.{◌≡◌, ◌↔◌, ◌+◌, ◌*◌, ◌<◌, ◌≤◌, ◌++◌, ◌∷◌, [], ℕ, Bool, OnOk, IfErr, IfOk, IsOk, IsTrue, Err, true, false, None, Some, length, slice_get};
-ghost use Rattle.vp_terms.specs.Control.{Ctrl, Values};
+ghost use Rattle.vp_terms.specs.Control.{AgreeFrom, Ctrl, Values, changing};
 ghost use Rattle.vp_terms.specs.Rational.{Rational};
 ghost use Rattle.vp_terms.specs.WellFormed.{IsWellFormed, places_of, prog_comparisons};
 ghost use Rattle.vp_terms.specs.Places.{place_count};
@@ -8,7 +8,6 @@ ghost use Rattle.vp_words.specs.Record.{IsValid};
 ghost use Rattle.vp_poly.specs.Places.{places_for};
 ghost use Rattle.vp_poly.specs.Points.{IsAt};
 ghost use Rattle.vp_poly.specs.Value.{Point};
-ghost use Rattle.vp_ctrl.specs.Changing.{AgreeFrom, changing};
 ghost use Rattle.vp_ctrl.specs.Steps.{listed};
 ghost use Rattle.vp_ctrl.specs.Ways.{way_count, ways};
 ghost use Rattle.vp_ctrl.specs.Hidden.{first_hidden};

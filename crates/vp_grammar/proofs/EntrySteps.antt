@@ -5,8 +5,8 @@ use Rattle.vp_terms.specs.declared.expr.Var.{Var}
 use Rattle.vp_terms.specs.Tree.{ExprTree}
 use Rattle.vp_grammar.specs.declared.terminal.Span.{Span}
 use Rattle.vp_grammar.specs.declared.terminal.Symbol.TheVariants as symbol
-use Rattle.vp_lex.specs.declared.word.Word.{Word}
-use Rattle.vp_lex.specs.declared.word.Word.TheVariants as word
+use Rattle.vp_lex.specs.declared.word.ReservedWord.{ReservedWord}
+use Rattle.vp_lex.specs.declared.word.ReservedWord.TheVariants as word
 use Rattle.vp_grammar.specs.declared.terminal.Terminal.{Terminal}
 use Rattle.vp_grammar.specs.declared.terminal.Terminal.TheVariants as terminal
 use Rattle.vp_grammar.specs.declared.fault.ParseErr.{ParseErr}
@@ -158,13 +158,13 @@ names_maybe : (ts : List Terminal) (spans : List Span) (rest : List Terminal) �
 names_maybe ts [] rest h = ([], h, refl)
 names_maybe ts (u ∷ us) rest h = listed_names ts (u ∷ us) rest h
 
-pub names_piece : (w : Word) (least : ℕ) (ts : List Terminal) (spans : List Span) → SpellsNames w least ts spans → Piece w MaybeNames [] ts spans × (least ≤ length spans)
+pub names_piece : (w : ReservedWord) (least : ℕ) (ts : List Terminal) (spans : List Span) → SpellsNames w least ts spans → Piece w MaybeNames [] ts spans × (least ≤ length spans)
 names_piece w least ts spans h =
     let e : spans ≡ map (λ m. m.0) h.0 = h.2 in
     let l : least ≤ length h.0 = h.3 in
     rw e ((names_then h.0 (semicolon ∷ []), h.1, maybe_names h.0 []), rw (length-map h.0 (λ (m : Span × Option Var). m.0)) l)
 
-pub piece_names : (w : Word) (least : ℕ) (ts : List Terminal) (spans : List Span) → Piece w MaybeNames [] ts spans → least ≤ length spans → SpellsNames w least ts spans
+pub piece_names : (w : ReservedWord) (least : ℕ) (ts : List Terminal) (spans : List Span) → Piece w MaybeNames [] ts spans → least ≤ length spans → SpellsNames w least ts spans
 piece_names w least ts spans p l =
     let n : IsNames p.0 spans [] = names_maybe p.0 spans [] p.2 in
     let e : length spans ≡ length n.0 = ap length n.2 ∙ length-map n.0 (λ (m : Span × Option Var). m.0) in
@@ -189,10 +189,10 @@ listed_entries m ts (t ∷ u ∷ us) rest w =
     let a : t ≡ expression_tree i.2 = i.4 in let b : u ∷ us ≡ entry_trees n.0 = n.2 in
     (Entry i.0 i.1 i.2 n.0, i.3 ∙ ap (λ (xs : List Terminal). terminal.Name i.0 i.1 ∷ mark_then m (expression_then i.2 xs)) (w.2.1.1 ∙ ap (λ (xs : List Terminal). comma ∷ xs) n.1), cc)
 
-pub entries_piece : (w : Word) (m : Mark) (ts : List Terminal) (trees : List ExprTree) → SpellsEntries w m ts trees → Piece w (Listed (IsEntry m) comma) [] ts trees
+pub entries_piece : (w : ReservedWord) (m : Mark) (ts : List Terminal) (trees : List ExprTree) → SpellsEntries w m ts trees → Piece w (Listed (IsEntry m) comma) [] ts trees
 entries_piece w m ts trees h = let e : trees ≡ entry_trees h.0 = h.2 in rw e (entries_then m h.0 (semicolon ∷ []), h.1, entries_listed m h.0 [])
 
-pub piece_entries : (w : Word) (m : Mark) (ts : List Terminal) (trees : List ExprTree) → Piece w (Listed (IsEntry m) comma) [] ts trees → SpellsEntries w m ts trees
+pub piece_entries : (w : ReservedWord) (m : Mark) (ts : List Terminal) (trees : List ExprTree) → Piece w (Listed (IsEntry m) comma) [] ts trees → SpellsEntries w m ts trees
 piece_entries w m ts trees p =
     let n : IsEntries m p.0 trees [] = listed_entries m p.0 trees [] p.2 in
     (n.0, p.1 ∙ ap (λ (xs : List Terminal). terminal.Word w ∷ xs) n.1, n.2)

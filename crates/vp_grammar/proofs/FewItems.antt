@@ -7,8 +7,8 @@ use Rattle.vp_terms.specs.declared.package.Slack.{Slack}
 use Rattle.vp_terms.specs.Tree.{expr_tree}
 use Rattle.vp_grammar.specs.declared.terminal.Span.{Span}
 use Rattle.vp_grammar.specs.declared.terminal.Symbol.TheVariants as symbol
-use Rattle.vp_lex.specs.declared.word.Word.{Word}
-use Rattle.vp_lex.specs.declared.word.Word.TheVariants as word
+use Rattle.vp_lex.specs.declared.word.ReservedWord.{ReservedWord}
+use Rattle.vp_lex.specs.declared.word.ReservedWord.TheVariants as word
 use Rattle.vp_grammar.specs.declared.terminal.Terminal.{Terminal}
 use Rattle.vp_grammar.specs.declared.terminal.Terminal.TheVariants as terminal
 use Rattle.vp_grammar.specs.declared.entries.Mark.{Mark}
@@ -23,7 +23,7 @@ names_few [] rest = omega arith
 names_few (n ∷ []) rest = omega arith
 names_few (n ∷ m ∷ ms) rest = omega (arith, names_few (m ∷ ms) rest)
 
-pub few_names : (w : Word) (least : ℕ) (ts : List Terminal) (spans : List Span) → SpellsNames w least ts spans → length spans ≤ length ts
+pub few_names : (w : ReservedWord) (least : ℕ) (ts : List Terminal) (spans : List Span) → SpellsNames w least ts spans → length spans ≤ length ts
 few_names w least ts spans s =
     let count : length spans ≡ length s.0 = ap length s.2 ∙ length-map s.0 (λ (n : Span × Option Var). n.0) in
     let whole : length ts ≡ length (names_then s.0 (terminal.Symbol symbol.Semicolon ∷ [])) + 1 = ap length s.1 ∙ (omega arith) in
@@ -37,7 +37,7 @@ entries_few : (m : Mark) (es : Entries) (rest : List Terminal) → length (entry
 entries_few m (LastEntry s v e) rest = omega arith
 entries_few m (Entry s v e es) rest = omega (arith, entries_few m es rest, expression_longer e (terminal.Symbol symbol.Comma ∷ entries_then m es rest), marked_longer m (expression_then e (terminal.Symbol symbol.Comma ∷ entries_then m es rest)))
 
-pub few_entries : (w : Word) (m : Mark) (ts : List Terminal) (es : List Expr) → SpellsEntries w m ts (map expr_tree es) → length es ≤ length ts
+pub few_entries : (w : ReservedWord) (m : Mark) (ts : List Terminal) (es : List Expr) → SpellsEntries w m ts (map expr_tree es) → length es ≤ length ts
 few_entries w m ts es s =
     let count : length es ≡ length (entry_trees s.0) = sym (length-map es expr_tree) ∙ ap length s.2 in
     let whole : length ts ≡ length (entries_then m s.0 (terminal.Symbol symbol.Semicolon ∷ [])) + 1 = ap length s.1 ∙ (omega arith) in

@@ -4,7 +4,7 @@ use Rattle.vp_terms.specs.declared.formula.Cmp.{Cmp}
 use Rattle.vp_grammar.specs.declared.terminal.Terminal.{Terminal}
 use Rattle.vp_grammar.specs.declared.terminal.Operator.TheVariants as operator
 use Rattle.vp_grammar.specs.declared.terminal.Symbol.TheVariants as symbol
-use Rattle.vp_lex.specs.declared.word.Word.{Word}
+use Rattle.vp_lex.specs.declared.word.ReservedWord.{ReservedWord}
 use Rattle.vp_grammar.specs.declared.terminal.Terminal.TheVariants as terminal
 use Rattle.vp_grammar.specs.declared.fault.ParseErr.{ParseErr}
 use Rattle.vp_grammar.specs.declared.fault.ParseErr.TheVariants.{Form, Memory}
@@ -225,11 +225,11 @@ formula_not_all ts rest u h n t s =
     n (ap length k.1)
 
 -- a word, a formula and `;`
-pub piece_fails : (w : Word) (ts more : List Terminal) (e : ParseErr) → ts ≡ terminal.Word w ∷ more → Fails (IsDisjunction more) e → FailsAll (SpellsFormulaPiece w ts) e
+pub piece_fails : (w : ReservedWord) (ts more : List Terminal) (e : ParseErr) → ts ≡ terminal.Word w ∷ more → Fails (IsDisjunction more) e → FailsAll (SpellsFormulaPiece w ts) e
 piece_fails w ts more Form m h = λ t s. h t (terminal.Symbol symbol.Semicolon ∷ []) (s.0, tail_of _ _ _ _ (sym m ∙ s.1), s.2, omega arith)
 piece_fails w ts more Memory m h = tt
 
-pub piece_goes_on : (w : Word) (ts more rest : List Terminal) (u : FormulaTree) → ts ≡ terminal.Word w ∷ more → IsDisjunction more u rest → (rest ≡ terminal.Symbol symbol.Semicolon ∷ [] → ⊥) → (t : FormulaTree) → SpellsFormulaPiece w ts t → ⊥
+pub piece_goes_on : (w : ReservedWord) (ts more rest : List Terminal) (u : FormulaTree) → ts ≡ terminal.Word w ∷ more → IsDisjunction more u rest → (rest ≡ terminal.Symbol symbol.Semicolon ∷ [] → ⊥) → (t : FormulaTree) → SpellsFormulaPiece w ts t → ⊥
 piece_goes_on w ts more rest u m h none t s =
     let k : (or_formula h.0 ≡ or_formula s.0) × (rest ≡ terminal.Symbol symbol.Semicolon ∷ []) = unique_or h.0 s.0 rest (terminal.Symbol symbol.Semicolon ∷ []) h.3 (omega arith) (sym h.1 ∙ tail_of _ _ _ _ (sym m ∙ s.1)) in
     none k.1

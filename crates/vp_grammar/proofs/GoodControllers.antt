@@ -8,7 +8,7 @@ use Rattle.vp_terms.specs.declared.prog.Prog.TheVariants.{Skip, Assign, Any, Tes
 use Rattle.vp_terms.specs.WellFormed.{in_model, is_good_prog, prog_comparisons}
 use Rattle.vp_terms.specs.Tree.{prog_tree}
 use Rattle.vp_grammar.specs.declared.terminal.Symbol.TheVariants as symbol
-use Rattle.vp_lex.specs.declared.word.Word.TheVariants as word
+use Rattle.vp_lex.specs.declared.word.ReservedWord.TheVariants as word
 use Rattle.vp_grammar.specs.declared.terminal.Terminal.{Terminal}
 use Rattle.vp_grammar.specs.declared.terminal.Terminal.TheVariants as terminal
 use Rattle.vp_grammar.specs.Grammar.{expression_then, expression_tree}

@@ -17,8 +17,8 @@ use Rattle.vp_grammar.specs.declared.terminal.Span.{Span}
 use Rattle.vp_grammar.specs.declared.terminal.Operator.{Operator}
 use Rattle.vp_grammar.specs.declared.terminal.Operator.TheVariants as operator
 use Rattle.vp_grammar.specs.declared.terminal.Symbol.TheVariants as symbol
-use Rattle.vp_lex.specs.declared.word.Word.{Word}
-use Rattle.vp_lex.specs.declared.word.Word.TheVariants as word
+use Rattle.vp_lex.specs.declared.word.ReservedWord.{ReservedWord}
+use Rattle.vp_lex.specs.declared.word.ReservedWord.TheVariants as word
 use Rattle.vp_grammar.specs.declared.terminal.Terminal.{Terminal}
 use Rattle.vp_grammar.specs.declared.terminal.Terminal.TheVariants as terminal
 use Rattle.vp_grammar.specs.declared.entries.Mark.{Mark}
@@ -97,15 +97,15 @@ entries_good m k p (Entry s v e es) h =
     let a : IsTrue (is_good_tree k p (expression_tree e)) × IsTrue (all_before (may_enter (left_of m) k p) (comma ∷ entries_then m es (semicolon ∷ []))) = entry_good m k p s v e (comma ∷ entries_then m es (semicolon ∷ [])) (left_comma m (entries_then m es (semicolon ∷ []))) h in
     and_both (is_good_tree k p (expression_tree e)) (list_all (is_good_tree k p) (entry_trees es)) a.0 (entries_good m k p es (behind (may_enter (left_of m) k p) comma (entries_then m es (semicolon ∷ [])) a.1))
 
-spelt_entries_good : (m : Mark) (k : Kinds) (p : Places) (w : Word) (ts : List Terminal) (es : List Expr) → SpellsEntries w m ts (map expr_tree es) → IsTrue (all_before (may_enter (left_of m) k p) ts) → IsTrue (list_all (is_good_expr k p) es)
+spelt_entries_good : (m : Mark) (k : Kinds) (p : Places) (w : ReservedWord) (ts : List Terminal) (es : List Expr) → SpellsEntries w m ts (map expr_tree es) → IsTrue (all_before (may_enter (left_of m) k p) ts) → IsTrue (list_all (is_good_expr k p) es)
 spelt_entries_good m k p w ts es s h =
     let a : IsTrue (all_before (may_enter (left_of m) k p) (terminal.Word w ∷ entries_then m s.0 (semicolon ∷ []))) = ap (λ (xs : List Terminal). all_before (may_enter (left_of m) k p) xs) (sym s.1) ∙ h in
     all_good k p es (entry_trees s.0) s.2 (entries_good m k p s.0 (behind (may_enter (left_of m) k p) (terminal.Word w) (entries_then m s.0 (semicolon ∷ [])) a))
 
-pub rates_good : (k : Kinds) (p : Places) (w : Word) (ts : List Terminal) (es : List Expr) → SpellsEntries w Rate ts (map expr_tree es) → IsTrue (all_before (may_enter rates k p) ts) → IsTrue (list_all (is_good_expr k p) es)
+pub rates_good : (k : Kinds) (p : Places) (w : ReservedWord) (ts : List Terminal) (es : List Expr) → SpellsEntries w Rate ts (map expr_tree es) → IsTrue (all_before (may_enter rates k p) ts) → IsTrue (list_all (is_good_expr k p) es)
 rates_good k p w ts es s h = spelt_entries_good Rate k p w ts es s h
 
-pub settings_good : (k : Kinds) (p : Places) (w : Word) (ts : List Terminal) (es : List Expr) → SpellsEntries w Setting ts (map expr_tree es) → IsTrue (all_before (may_enter sets k p) ts) → IsTrue (list_all (is_good_expr k p) es)
+pub settings_good : (k : Kinds) (p : Places) (w : ReservedWord) (ts : List Terminal) (es : List Expr) → SpellsEntries w Setting ts (map expr_tree es) → IsTrue (all_before (may_enter sets k p) ts) → IsTrue (list_all (is_good_expr k p) es)
 settings_good k p w ts es s h = spelt_entries_good Setting k p w ts es s h
 
 -- pairs

@@ -11,7 +11,7 @@ use Rattle.vp_grammar.specs.declared.strays.Rule.TheVariants.{Plain}
 use Rattle.vp_grammar.specs.declared.terminal.Span.{Span}
 use Rattle.vp_grammar.specs.declared.terminal.Operator.TheVariants as operator
 use Rattle.vp_grammar.specs.declared.terminal.Symbol.TheVariants as symbol
-use Rattle.vp_lex.specs.declared.word.Word.{Word}
+use Rattle.vp_lex.specs.declared.word.ReservedWord.{ReservedWord}
 use Rattle.vp_grammar.specs.declared.terminal.Terminal.{Terminal}
 use Rattle.vp_grammar.specs.declared.terminal.Terminal.TheVariants as terminal
 use Rattle.vp_grammar.specs.Grammar.{Expression, Summed, Start, Positive, Negative, Terms, NoTerms, Added, Subtracted, Term, Factored, Factors, NoFactors, Times, Factor, Alone, Raised, Base, Literal, Named, Timed, Bracketed, expression_then, start_then, terms_then, term_then, factors_then, factor_then, base_then, expression_tree, start_tree, terms_tree, term_tree, factors_tree, factor_tree, base_tree}
@@ -181,7 +181,7 @@ module _ (k : Kinds) (p : Places) where
       let good : GoodOver k p (or_formula s.0) = ap (is_good_condition k p) (sym s.2) ∙ sym (good_formula_is k p f) ∙ g in
       none_strays 0 ts (ap (list_all (may_stand k p)) s.1 ∙ (formula_kept s.0 [] these).1 good refl)
 
-  pub kept_condition : (w : Word) (f : Formula) (ts : List Terminal) → SpellsFormulaPiece w ts (formula_tree f) → IsTrue (list_all is_declared ts) → IsTrue (is_good_formula k p f) → first_stray (Plain k) p 0 ts ≡ None
+  pub kept_condition : (w : ReservedWord) (f : Formula) (ts : List Terminal) → SpellsFormulaPiece w ts (formula_tree f) → IsTrue (list_all is_declared ts) → IsTrue (is_good_formula k p f) → first_stray (Plain k) p 0 ts ≡ None
   kept_condition w f ts s d g =
       let end : List Terminal = terminal.Symbol symbol.Semicolon ∷ [] in
       let these : Declared (or_then s.0 end) = ap (list_all is_declared) (sym s.1) ∙ d in

@@ -8,7 +8,7 @@ use Rattle.vp_terms.specs.declared.expr.Places.{Places}
 use Rattle.vp_terms.specs.declared.prog.Prog.{Prog}
 use Rattle.vp_terms.specs.WellFormed.{in_model, is_good_prog}
 use Rattle.vp_terms.specs.Tree.{prog_tree}
-use Rattle.vp_lex.specs.declared.word.Word.TheVariants as word
+use Rattle.vp_lex.specs.declared.word.ReservedWord.TheVariants as word
 use Rattle.vp_grammar.specs.declared.strays.Rule.TheVariants.{Controller}
 use Rattle.vp_grammar.specs.declared.terminal.Span.{Span}
 use Rattle.vp_grammar.specs.declared.terminal.Operator.TheVariants as operator

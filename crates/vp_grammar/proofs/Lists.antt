@@ -2,7 +2,7 @@
 use Rattle.std.proofs.Common.{◌≡◌, ◌≢◌, length, List, [], ◌∷◌, ◌++◌, map, refl, ap, sym, ◌∙◌, append_assoc, subst}
 use Rattle.std.proofs.lemmas.List.{append-nil, map-append, nil_from_length}
 use Rattle.vp_grammar.specs.declared.terminal.Symbol.TheVariants as symbol
-use Rattle.vp_lex.specs.declared.word.Word.{Word}
+use Rattle.vp_lex.specs.declared.word.ReservedWord.{ReservedWord}
 use Rattle.vp_grammar.specs.declared.terminal.Terminal.{Terminal}
 use Rattle.vp_grammar.specs.declared.terminal.Terminal.TheVariants as terminal
 use Rattle.vp_grammar.specs.declared.fault.ParseErr.{ParseErr}
@@ -157,30 +157,30 @@ behind_listed item separator ts [] rest w = absurd w
 behind_listed item separator ts (u ∷ us) rest w = (w.0, (ts, refl, w.1), w.2)
 
 -- a piece that begins with a word: what follows it is read up to the tail
-abbrev pub Piece : {T : Type 0} → Word → (List Terminal → T → List Terminal → Type 0) → List Terminal → List Terminal → T → Type 0
+abbrev pub Piece : {T : Type 0} → ReservedWord → (List Terminal → T → List Terminal → Type 0) → List Terminal → List Terminal → T → Type 0
 Piece w reading tail ts t = (more : List Terminal) × (ts ≡ terminal.Word w ∷ more) × reading more t tail
 
-pub piece_rest : {T : Type 0} (w : Word) (reading : List Terminal → T → List Terminal → Type 0) (tail ts more : List Terminal) (t : T) → ts ≡ terminal.Word w ∷ more → Piece w reading tail ts t → reading more t tail
+pub piece_rest : {T : Type 0} (w : ReservedWord) (reading : List Terminal → T → List Terminal → Type 0) (tail ts more : List Terminal) (t : T) → ts ≡ terminal.Word w ∷ more → Piece w reading tail ts t → reading more t tail
 piece_rest {T} w reading tail ts more t e p =
     let f : p.0 ≡ more = tail_of (terminal.Word w) (terminal.Word w) _ _ (sym p.1 ∙ e) in
     let l : reading p.0 t tail = p.2 in
     subst (λ (x : List Terminal). reading x t tail) f l
 
-pub no_piece : {T : Type 0} (w : Word) (reading : List Terminal → T → List Terminal → Type 0) (tail ts : List Terminal) → NotBegins (terminal.Word w) ts → (t : T) → Piece w reading tail ts t → ⊥
+pub no_piece : {T : Type 0} (w : ReservedWord) (reading : List Terminal → T → List Terminal → Type 0) (tail ts : List Terminal) → NotBegins (terminal.Word w) ts → (t : T) → Piece w reading tail ts t → ⊥
 no_piece w reading tail ts none t p = none p.0 p.1
 
-pub piece_fails : {T : Type 0} (w : Word) (reading : List Terminal → T → List Terminal → Type 0) (tail ts more : List Terminal) (e : ParseErr) → ts ≡ terminal.Word w ∷ more → Fails (reading more) e → FailsAll (Piece w reading tail ts) e
+pub piece_fails : {T : Type 0} (w : ReservedWord) (reading : List Terminal → T → List Terminal → Type 0) (tail ts more : List Terminal) (e : ParseErr) → ts ≡ terminal.Word w ∷ more → Fails (reading more) e → FailsAll (Piece w reading tail ts) e
 piece_fails w reading tail ts more Form e h = λ t p. h t tail (piece_rest w reading tail ts more t e p)
 piece_fails w reading tail ts more Memory e h = tt
 
-pub piece_is : {T : Type 0} (w : Word) (reading : List Terminal → T → List Terminal → Type 0) → Once reading → (tail ts more rest : List Terminal) (t u : T) → ts ≡ terminal.Word w ∷ more → reading more u rest → Piece w reading tail ts t → (t ≡ u) × (tail ≡ rest)
+pub piece_is : {T : Type 0} (w : ReservedWord) (reading : List Terminal → T → List Terminal → Type 0) → Once reading → (tail ts more rest : List Terminal) (t u : T) → ts ≡ terminal.Word w ∷ more → reading more u rest → Piece w reading tail ts t → (t ≡ u) × (tail ≡ rest)
 piece_is w reading once tail ts more rest t u e h p = once more t u tail rest (piece_rest w reading tail ts more t e p) h
 
 pub fails_alike : {T : Type 0} (P Q : T → Type 0) (e : ParseErr) → ((t : T) → Q t → P t) → FailsAll P e → FailsAll Q e
 fails_alike P Q Form f h = λ t q. h t (f t q)
 fails_alike P Q Memory f h = tt
 
-pub piece_goes : {T : Type 0} (w : Word) (reading : List Terminal → T → List Terminal → Type 0) → Once reading → (tail ts more rest : List Terminal) (u : T) → ts ≡ terminal.Word w ∷ more → reading more u rest → (tail ≡ rest → ⊥) → (t : T) → Piece w reading tail ts t → ⊥
+pub piece_goes : {T : Type 0} (w : ReservedWord) (reading : List Terminal → T → List Terminal → Type 0) → Once reading → (tail ts more rest : List Terminal) (u : T) → ts ≡ terminal.Word w ∷ more → reading more u rest → (tail ≡ rest → ⊥) → (t : T) → Piece w reading tail ts t → ⊥
 piece_goes w reading once tail ts more rest u e h none t p = none (piece_is w reading once tail ts more rest t u e h p).1
 
 pub read_whole : {T : Type 0} (reading : List Terminal → T → List Terminal → Type 0) (more rest : List Terminal) (t : T) → reading more t rest → length rest ≡ 0 → reading more t []
@@ -189,5 +189,5 @@ read_whole reading more rest t h e = subst (λ (xs : List Terminal). reading mor
 pub goes_behind : (rest : List Terminal) → length rest ≢ 0 → [] ≡ rest → ⊥
 goes_behind rest n e = n (ap length (sym e))
 
-pub one_piece : {T : Type 0} (w : Word) (reading : List Terminal → T → List Terminal → Type 0) → Once reading → (tail ts : List Terminal) (t u : T) → Piece w reading tail ts t → Piece w reading tail ts u → t ≡ u
+pub one_piece : {T : Type 0} (w : ReservedWord) (reading : List Terminal → T → List Terminal → Type 0) → Once reading → (tail ts : List Terminal) (t u : T) → Piece w reading tail ts t → Piece w reading tail ts u → t ≡ u
 one_piece w reading once tail ts t u p q = (piece_is w reading once tail ts q.0 tail t u q.1 q.2 p).0

@@ -12,7 +12,7 @@ use Rattle.vp_terms.specs.Certificates.{IsCertificate, begins_with_one_pos, has_
 use Rattle.vp_terms.specs.Tree.{ExprTree, Constant, Place, Sum, Difference, Product as ProductOf, Power, expr_tree}
 use Rattle.vp_grammar.specs.declared.terminal.Operator.TheVariants as operator
 use Rattle.vp_grammar.specs.declared.terminal.Symbol.TheVariants as symbol
-use Rattle.vp_lex.specs.declared.word.Word.TheVariants as word
+use Rattle.vp_lex.specs.declared.word.ReservedWord.TheVariants as word
 use Rattle.vp_grammar.specs.declared.terminal.Terminal.{Terminal}
 use Rattle.vp_grammar.specs.declared.terminal.Terminal.TheVariants as terminal
 use Rattle.vp_grammar.specs.Grammar.{Expression, Summed, Start, Positive, Negative, Terms, NoTerms, Added, Subtracted, Term, Factored, Factors, NoFactors, Times, Factor, Alone, Raised, Base, Literal, Named, Timed, Bracketed, expression_then, start_then, terms_then, term_then, factors_then, factor_then, base_then, expression_tree, start_tree, terms_tree, term_tree as tree_of_term, factors_tree, factor_tree, base_tree}

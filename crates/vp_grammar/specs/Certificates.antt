@@ -7,8 +7,8 @@ use Rattle.vp_terms.specs.declared.package.Part.{Part}
 use Rattle.vp_terms.specs.declared.package.Part.TheVariants as part
 use Rattle.vp_grammar.specs.declared.terminal.Operator.TheVariants as operator
 use Rattle.vp_grammar.specs.declared.terminal.Symbol.TheVariants as symbol
-use Rattle.vp_lex.specs.declared.word.Word.{Word}
-use Rattle.vp_lex.specs.declared.word.Word.TheVariants as word
+use Rattle.vp_lex.specs.declared.word.ReservedWord.{ReservedWord}
+use Rattle.vp_lex.specs.declared.word.ReservedWord.TheVariants as word
 use Rattle.vp_grammar.specs.declared.terminal.Terminal.{Terminal}
 use Rattle.vp_grammar.specs.declared.terminal.Terminal.TheVariants as terminal
 use Rattle.vp_grammar.specs.Grammar.{Expression, expression_then, expression_tree}
@@ -51,7 +51,7 @@ pub record CertForm : Type 0 where
   pub labels : List Ratio
   pub laters : List Later
 
-abbrev pub part_word : Part → Word
+abbrev pub part_word : Part → ReservedWord
 part_word part.Init = word.Init
 part_word part.Safe = word.Safe
 part_word part.Step = word.Step

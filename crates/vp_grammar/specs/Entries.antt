@@ -5,8 +5,8 @@ use Rattle.vp_terms.specs.declared.expr.Var.{Var}
 use Rattle.vp_terms.specs.Tree.{ExprTree}
 use Rattle.vp_grammar.specs.declared.terminal.Span.{Span}
 use Rattle.vp_grammar.specs.declared.terminal.Symbol.TheVariants as symbol
-use Rattle.vp_lex.specs.declared.word.Word.{Word}
-use Rattle.vp_lex.specs.declared.word.Word.TheVariants as word
+use Rattle.vp_lex.specs.declared.word.ReservedWord.{ReservedWord}
+use Rattle.vp_lex.specs.declared.word.ReservedWord.TheVariants as word
 use Rattle.vp_grammar.specs.declared.terminal.Terminal.{Terminal}
 use Rattle.vp_grammar.specs.declared.terminal.Terminal.TheVariants as terminal
 use Rattle.vp_grammar.specs.declared.entries.Mark.{Mark}
@@ -20,7 +20,7 @@ names_then (n ∷ []) rest = terminal.Name n.0 n.1 ∷ rest
 names_then (n ∷ m ∷ ms) rest = terminal.Name n.0 n.1 ∷ terminal.Symbol symbol.Comma ∷ names_then (m ∷ ms) rest
 
 -- a word, then at least so many names, then ";"
-abbrev pub SpellsNames : Word → ℕ → List Terminal → List Span → Type 0
+abbrev pub SpellsNames : ReservedWord → ℕ → List Terminal → List Span → Type 0
 SpellsNames w least ts spans = (ns : List (Span × Option Var)) × (ts ≡ terminal.Word w ∷ names_then ns (terminal.Symbol symbol.Semicolon ∷ [])) × (spans ≡ map (λ n. n.0) ns) × (least ≤ length ns)
 
 -- what stands between a name and its expression: "'" "=" for a rate, "=" for a setting
@@ -42,7 +42,7 @@ entry_trees (LastEntry s v e) = expression_tree e ∷ []
 entry_trees (Entry s v e es) = expression_tree e ∷ entry_trees es
 
 -- a word, then entries, then ";"
-abbrev pub SpellsEntries : Word → Mark → List Terminal → List ExprTree → Type 0
+abbrev pub SpellsEntries : ReservedWord → Mark → List Terminal → List ExprTree → Type 0
 SpellsEntries w m ts trees = (es : Entries) × (ts ≡ terminal.Word w ∷ entries_then m es (terminal.Symbol symbol.Semicolon ∷ [])) × (trees ≡ entry_trees es)
 
 -- bounds with commas between: name "from" expr "to" expr

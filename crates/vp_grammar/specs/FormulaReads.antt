@@ -3,8 +3,8 @@ use Rattle.std.specs.Prelude.{◌≡◌, ◌<◌, List, [], ◌∷◌}
 use Rattle.vp_terms.specs.declared.formula.Cmp.{Cmp}
 use Rattle.vp_terms.specs.Tree.{FormulaTree, Compares}
 use Rattle.vp_grammar.specs.declared.terminal.Symbol.TheVariants as symbol
-use Rattle.vp_lex.specs.declared.word.Word.{Word}
-use Rattle.vp_lex.specs.declared.word.Word.TheVariants as word
+use Rattle.vp_lex.specs.declared.word.ReservedWord.{ReservedWord}
+use Rattle.vp_lex.specs.declared.word.ReservedWord.TheVariants as word
 use Rattle.vp_grammar.specs.declared.terminal.Terminal.{Terminal}
 use Rattle.vp_grammar.specs.declared.terminal.Terminal.TheVariants as terminal
 use Rattle.vp_grammar.specs.declared.leading.Leading.{Leading}
@@ -58,5 +58,5 @@ abbrev pub SpellsFormula : List Terminal → FormulaTree → Type 0
 SpellsFormula ts t = (e : Disjunction) × (ts ≡ or_then e []) × (t ≡ or_formula e)
 
 -- All of the terminals are a word, a formula with this tree, and `;`.
-abbrev pub SpellsFormulaPiece : Word → List Terminal → FormulaTree → Type 0
+abbrev pub SpellsFormulaPiece : ReservedWord → List Terminal → FormulaTree → Type 0
 SpellsFormulaPiece w ts t = (e : Disjunction) × (ts ≡ terminal.Word w ∷ or_then e (terminal.Symbol symbol.Semicolon ∷ [])) × (t ≡ or_formula e)

@@ -4,7 +4,7 @@ use Rattle.vp_terms.specs.declared.formula.Cmp.{Cmp}
 use Rattle.vp_terms.specs.Tree.{FormulaTree, Always, Compares, Both, Either, Denial}
 use Rattle.vp_grammar.specs.declared.terminal.Operator.TheVariants as operator
 use Rattle.vp_grammar.specs.declared.terminal.Symbol.TheVariants as symbol
-use Rattle.vp_lex.specs.declared.word.Word.TheVariants as word
+use Rattle.vp_lex.specs.declared.word.ReservedWord.TheVariants as word
 use Rattle.vp_grammar.specs.declared.terminal.Terminal.{Terminal}
 use Rattle.vp_grammar.specs.declared.terminal.Terminal.TheVariants as terminal
 use Rattle.vp_grammar.specs.Grammar.{Expression, expression_then, expression_tree}

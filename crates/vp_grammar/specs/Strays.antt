@@ -8,7 +8,7 @@ use Rattle.vp_terms.specs.declared.well_formed.Kinds.{Kinds}
 use Rattle.vp_terms.specs.WellFormed.{is_allowed, in_model, in_slack}
 use Rattle.vp_grammar.specs.declared.terminal.Span.{Span}
 use Rattle.vp_grammar.specs.declared.terminal.Symbol.TheVariants as symbol
-use Rattle.vp_lex.specs.declared.word.Word.TheVariants as word
+use Rattle.vp_lex.specs.declared.word.ReservedWord.TheVariants as word
 use Rattle.vp_grammar.specs.declared.terminal.Terminal.{Terminal}
 use Rattle.vp_grammar.specs.declared.terminal.Terminal.TheVariants as terminal
 use Rattle.vp_grammar.specs.declared.strays.Rule.{Rule}

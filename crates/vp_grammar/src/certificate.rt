@@ -14,7 +14,7 @@ use crate::fault::ParseErr;
 use crate::front::{after_operator, after_symbol, after_word, first, is_only, whole};
 use crate::terminal::{Operator, Symbol, Terminal};
 use std::alloc::Global;
-use vp_lex::Word;
+use vp_lex::ReservedWord;
 use vp_terms::{Cert, CertTerm, Expr, Items, Part};
 
 /// The label in front, and what follows it; beyond 32 bits it is read as the greatest.
@@ -56,7 +56,7 @@ fn labels(alloc: Global, terminals: &[Terminal]) -> Result<(Vec<u32>, &[Terminal
 {
     match after_symbol(Symbol::Semicolon, terminals) {
         Some(rest) => Ok((Vec::new(alloc), rest)),
-        None => match after_word(Word::Of, terminals) {
+        None => match after_word(ReservedWord::Of, terminals) {
             Some(more) => product(alloc, more),
             None => Err(ParseErr::Form),
         },
@@ -87,7 +87,7 @@ fn squares(alloc: Global, terminals: &[Terminal]) -> Result<(Vec<Expr>, &[Termin
 {
     let mut found = Vec::new(alloc);
     let mut rest = terminals;
-    'squares: while let Some(more) = after_word(Word::Sq, rest) {
+    'squares: while let Some(more) = after_word(ReservedWord::Sq, rest) {
         let (square, after) = bracketed(alloc, more)?;
         found.push(square)?;
         rest = after;
@@ -140,7 +140,7 @@ fn equation(alloc: Global, terminals: &[Terminal]) -> Result<(CertTerm, &[Termin
     let Some((label, rest)) = label(terminals) else {
         return Err(ParseErr::Form);
     };
-    let Some(more) = after_word(Word::Times, rest) else {
+    let Some(more) = after_word(ReservedWord::Times, rest) else {
         return Err(ParseErr::Form);
     };
     let (times, behind) = bracketed(alloc, more)?;
@@ -155,9 +155,9 @@ fn later(alloc: Global, terminals: &[Terminal]) -> Result<(CertTerm, &[Terminal]
     ensures reads { Reads (λ x. term_tree x.0) (λ x. x.1.now) (IsLater terminals.now) result }
     ensures shorter { IfOk result (λ x. length x.1.now < length terminals.now) }
 {
-    match after_word(Word::Sum, terminals) {
+    match after_word(ReservedWord::Sum, terminals) {
         Some(more) => sum(alloc, more),
-        None => match after_word(Word::Eq, terminals) {
+        None => match after_word(ReservedWord::Eq, terminals) {
             Some(more) => equation(alloc, more),
             None => Err(ParseErr::Form),
         },
@@ -168,7 +168,7 @@ fn later(alloc: Global, terminals: &[Terminal]) -> Result<(CertTerm, &[Terminal]
 fn terms(alloc: Global, terminals: &[Terminal]) -> Result<(Vec<CertTerm>, &[Terminal]), ParseErr>
     ensures { Reads (λ x. map term_tree x.0.items) (λ x. x.1.now) (AreTerms terminals.now) result }
 {
-    let Some(more) = after_word(Word::Pos, terminals) else {
+    let Some(more) = after_word(ReservedWord::Pos, terminals) else {
         return Err(ParseErr::Form);
     };
     let (first, mut rest) = strict(alloc, more)?;
@@ -188,10 +188,10 @@ fn part(terminals: &[Terminal]) -> Option<(Part, &[Terminal])>
     ensures { MatchOption result ((p : Part) (rest : List Terminal) → IsPart terminals.now p rest → ⊥) (λ x. IsPart terminals.now x.0 x.1.now) }
 {
     match first(terminals) {
-        Some((Terminal::Word(Word::Init), rest)) => Some((Part::Init, rest)),
-        Some((Terminal::Word(Word::Safe), rest)) => Some((Part::Safe, rest)),
-        Some((Terminal::Word(Word::Step), rest)) => Some((Part::Step, rest)),
-        Some((Terminal::Word(Word::Fallback), rest)) => Some((Part::Fallback, rest)),
+        Some((Terminal::Word(ReservedWord::Init), rest)) => Some((Part::Init, rest)),
+        Some((Terminal::Word(ReservedWord::Safe), rest)) => Some((Part::Safe, rest)),
+        Some((Terminal::Word(ReservedWord::Step), rest)) => Some((Part::Step, rest)),
+        Some((Terminal::Word(ReservedWord::Fallback), rest)) => Some((Part::Fallback, rest)),
         _ => None,
     }
 }
@@ -200,7 +200,7 @@ fn part(terminals: &[Terminal]) -> Option<(Part, &[Terminal])>
 fn head(terminals: &[Terminal]) -> Option<(Part, u32, &[Terminal])>
     ensures { MatchOption result ((p : Part) (n : ℕ) (rest : List Terminal) → IsHead terminals.now p n rest → ⊥) (λ x. IsHead terminals.now x.0 x.1 x.2.now) }
 {
-    let Some(more) = after_word(Word::Cert, terminals) else {
+    let Some(more) = after_word(ReservedWord::Cert, terminals) else {
         return None;
     };
     let Some((part, behind)) = part(more) else {

@@ -10,7 +10,7 @@ use crate::formula::{disjunction, group};
 use crate::front::{after_operator, after_symbol, after_word, first};
 use crate::terminal::{Operator, Symbol, Terminal};
 use std::alloc::Global;
-use vp_lex::Word;
+use vp_lex::ReservedWord;
 use vp_terms::{Prog, Var};
 
 /// What a statement begins with, and what follows.
@@ -40,7 +40,10 @@ fn begins(terminals: &[Terminal]) -> Beginning<'_>
             None => Beginning::Other,
         },
         Some((Terminal::Symbol(Symbol::Question), rest)) => Beginning::Testing(rest),
-        Some((Terminal::Word(Word::If), rest)) => match after_symbol(Symbol::SquareOpen, rest) {
+        Some((Terminal::Word(ReservedWord::If), rest)) => match after_symbol(
+            Symbol::SquareOpen,
+            rest,
+        ) {
             Some(more) => Beginning::Branching(more),
             None => Beginning::Other,
         },
@@ -195,7 +198,7 @@ fn otherwise(alloc: Global, terminals: &[Terminal]) -> Result<(Prog, &[Terminal]
     ensures reads { Reads (λ x. prog_tree x.0) (λ x. x.1.now) (IsElse terminals.now) result }
     ensures no_longer { IfOk result (λ x. length x.1.now ≤ length terminals.now) }
 {
-    match after_word(Word::Else, terminals) {
+    match after_word(ReservedWord::Else, terminals) {
         Some(more) => block(alloc, more),
         None => Ok((Prog::Skip, terminals)),
     }
@@ -216,7 +219,7 @@ fn whole_choice(alloc: Global, terminals: &[Terminal]) -> Result<Prog, ParseErr>
 pub fn whole_controller(alloc: Global, terminals: &[Terminal]) -> Result<Prog, ParseErr>
     ensures { ReadsAll prog_tree (SpellsController terminals.now) result }
 {
-    match after_word(Word::Ctrl, terminals) {
+    match after_word(ReservedWord::Ctrl, terminals) {
         Some(rest) => whole_choice(alloc, rest),
         None => Err(ParseErr::Form),
     }

@@ -16,7 +16,7 @@ use crate::fault::ParseErr;
 use crate::front::{after_symbol, after_word, first, is_only};
 use crate::terminal::{Span, Symbol, Terminal};
 use std::alloc::Global;
-use vp_lex::Word;
+use vp_lex::ReservedWord;
 use vp_terms::{Cmp, Expr, Slack};
 
 /// What stands between a name and its expression.
@@ -76,7 +76,7 @@ fn bounded(terminals: &[Terminal]) -> Option<&[Terminal]>
     ensures { MatchOption result ((rest : List Terminal) → IsBounded terminals.now rest → ⊥) (λ rest. IsBounded terminals.now rest.now) }
 {
     match name(terminals) {
-        Some((_, rest)) => after_word(Word::From, rest),
+        Some((_, rest)) => after_word(ReservedWord::From, rest),
         None => None,
     }
 }
@@ -98,7 +98,7 @@ fn pair(alloc: Global, terminals: &[Terminal]) -> Result<(Expr, Expr, &[Terminal
     ensures shorter { IfOk result (λ x. length x.2.now < length terminals.now) }
 {
     let (low, rest) = expression(alloc, terminals)?;
-    match after_word(Word::To, rest) {
+    match after_word(ReservedWord::To, rest) {
         Some(more) => {
             let (high, after) = expression(alloc, more)?;
             Ok((low, high, after))
@@ -155,7 +155,7 @@ fn maybe_names(alloc: Global, terminals: &[Terminal]) -> Result<(Vec<Span>, &[Te
 /// The names behind this word: at least so many, with commas between and `;` at the end.
 pub fn names(
     alloc: Global,
-    word: Word,
+    word: ReservedWord,
     least: usize,
     terminals: &[Terminal],
 ) -> Result<Vec<Span>, ParseErr>
@@ -197,7 +197,7 @@ fn entry_list(
 /// The expressions of the entries behind this word, with commas between and `;` at the end.
 pub fn whole_entries(
     alloc: Global,
-    word: Word,
+    word: ReservedWord,
     mark: Mark,
     terminals: &[Terminal],
 ) -> Result<Vec<Expr>, ParseErr>
@@ -237,7 +237,7 @@ pub fn bounds(alloc: Global, terminals: &[Terminal]) -> Result<Vec<Slack>, Parse
     ensures reads { ReadsAll (λ v. map slack_tree v.items) (SpellsBounds terminals.now) result }
     ensures few { IfOk result (λ v. length v.items ≤ length terminals.now) }
 {
-    let Some(more) = after_word(Word::Slack, terminals) else {
+    let Some(more) = after_word(ReservedWord::Slack, terminals) else {
         return Err(ParseErr::Form);
     };
     let (found, rest) = bound_list(alloc, more)?;
@@ -252,7 +252,7 @@ pub fn bounds(alloc: Global, terminals: &[Terminal]) -> Result<Vec<Slack>, Parse
 pub fn times(alloc: Global, terminals: &[Terminal]) -> Result<(Expr, Expr), ParseErr>
     ensures { ReadsAll (λ x. (expr_tree x.0, expr_tree x.1)) (SpellsTimes terminals.now) result }
 {
-    let Some(more) = after_word(Word::Time, terminals) else {
+    let Some(more) = after_word(ReservedWord::Time, terminals) else {
         return Err(ParseErr::Form);
     };
     let (low, high, rest) = pair(alloc, more)?;

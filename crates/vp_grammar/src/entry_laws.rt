@@ -12,7 +12,7 @@ ghost use Rattle.vp_grammar.specs.declared.entries.Mark.{Mark};
 ghost use Rattle.vp_grammar.specs.declared.entries.Mark.TheVariants.{Rate, Setting};
 ghost use Rattle.vp_grammar.specs.declared.terminal.Span.{Span};
 ghost use Rattle.vp_grammar.specs.declared.terminal.Terminal.{Terminal};
-ghost use Rattle.vp_lex.specs.declared.word.Word.{Word};
+ghost use Rattle.vp_lex.specs.declared.word.ReservedWord.{ReservedWord};
 ghost use Rattle.vp_grammar.specs.Entries.{SpellsNames, SpellsEntries, SpellsBounds, SpellsTimes};
 ghost use Rattle.vp_terms.specs.Packages.{slack_tree};
 ghost use Rattle.vp_terms.specs.Certificates.{IsCertificate};
@@ -23,12 +23,12 @@ ghost use Rattle.vp_grammar.specs.declared.strays.Rule.TheVariants as rule;
 
 /// The same terminals are no two lists of names.
 pub fn one_list_of_names()
-    ensures { (w : Word) (least : ℕ) (ts : List Terminal) (a b : List Span) → SpellsNames w least ts a → SpellsNames w least ts b → a ≡ b }
+    ensures { (w : ReservedWord) (least : ℕ) (ts : List Terminal) (a b : List Span) → SpellsNames w least ts a → SpellsNames w least ts b → a ≡ b }
 {}
 
 /// The same terminals are no two lists of entries.
 pub fn one_list_of_entries()
-    ensures { (w : Word) (m : Mark) (ts : List Terminal) (a b : List ExprTree) → SpellsEntries w m ts a → SpellsEntries w m ts b → a ≡ b }
+    ensures { (w : ReservedWord) (m : Mark) (ts : List Terminal) (a b : List ExprTree) → SpellsEntries w m ts a → SpellsEntries w m ts b → a ≡ b }
 {}
 
 /// The same terminals are no two lists of bounds.
@@ -48,10 +48,10 @@ pub fn one_certificate()
 
 /// Entries of which no variable strays have well formed expressions.
 pub fn good_entries()
-    ensures rates { (p : Places) (w : Word) (ts : List Terminal) (es : List Expr) →
+    ensures rates { (p : Places) (w : ReservedWord) (ts : List Terminal) (es : List Expr) →
         SpellsEntries w Rate ts (map expr_tree es) → first_stray rule.Flow p 0 ts ≡ None →
         IsTrue (list_all (is_good_expr in_model p) es) }
-    ensures settings { (p : Places) (w : Word) (ts : List Terminal) (es : List Expr) →
+    ensures settings { (p : Places) (w : ReservedWord) (ts : List Terminal) (es : List Expr) →
         SpellsEntries w Setting ts (map expr_tree es) → first_stray rule.Fallback p 0 ts ≡ None →
         IsTrue (list_all (is_good_expr in_model p) es) }
 {}

@@ -10,7 +10,7 @@ use crate::front::{after_operator, after_symbol, after_word, is_only, precedence
 use crate::leading::{Leading, after_cmp, leads};
 use crate::terminal::{Operator, Symbol, Terminal};
 use std::alloc::Global;
-use vp_lex::Word;
+use vp_lex::ReservedWord;
 use vp_terms::Formula;
 
 #[cycle(formula)]
@@ -117,7 +117,11 @@ pub fn whole_formula(alloc: Global, terminals: &[Terminal]) -> Result<Formula, P
 }
 
 /// The formula of a piece: this word, a formula, and `;`.
-pub fn formula_piece(alloc: Global, word: Word, terminals: &[Terminal]) -> Result<Formula, ParseErr>
+pub fn formula_piece(
+    alloc: Global,
+    word: ReservedWord,
+    terminals: &[Terminal],
+) -> Result<Formula, ParseErr>
     ensures { ReadsAll formula_tree (SpellsFormulaPiece word terminals.now) result }
 {
     match after_word(word, terminals) {

@@ -7,7 +7,7 @@ ghost use Rattle.vp_grammar.specs.declared.terminal.Terminal.{Terminal};
 
 use crate::fault::ParseErr;
 use crate::terminal::{Operator, Symbol, Terminal};
-use vp_lex::Word;
+use vp_lex::ReservedWord;
 use vp_terms::{Ratio, Var};
 
 const LARGEST_EXPONENT: u64 = 12;
@@ -39,7 +39,7 @@ pub(crate) fn first(terminals: &[Terminal]) -> Option<(Terminal, &[Terminal])>
 }
 
 /// What follows this word in front.
-pub(crate) fn after_word(word: Word, terminals: &[Terminal]) -> Option<&[Terminal]>
+pub(crate) fn after_word(word: ReservedWord, terminals: &[Terminal]) -> Option<&[Terminal]>
     ensures { MatchOption result (NotBegins (terminal.Word word) terminals.now) (λ rest. terminals.now ≡ terminal.Word word ∷ rest.now) }
 {
     match first(terminals) {

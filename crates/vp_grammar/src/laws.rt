@@ -12,7 +12,7 @@ ghost use Rattle.vp_grammar.specs.Reads.{Spells};
 ghost use Rattle.vp_grammar.specs.Strays.{first_stray, is_declared};
 ghost use Rattle.vp_grammar.specs.declared.strays.Rule.TheVariants.{Plain};
 ghost use Rattle.vp_grammar.specs.declared.terminal.Terminal.{Terminal};
-ghost use Rattle.vp_lex.specs.declared.word.Word.{Word};
+ghost use Rattle.vp_lex.specs.declared.word.ReservedWord.{ReservedWord};
 
 /// Terminals are those of at most one expression.
 pub fn one_expression()
@@ -23,7 +23,7 @@ pub fn one_expression()
 pub fn one_formula()
     ensures whole { (ts : List Terminal) (f g : FormulaTree) → SpellsFormula ts f → SpellsFormula ts g →
         f ≡ g }
-    ensures piece { (w : Word) (ts : List Terminal) (f g : FormulaTree) → SpellsFormulaPiece w ts f →
+    ensures piece { (w : ReservedWord) (ts : List Terminal) (f g : FormulaTree) → SpellsFormulaPiece w ts f →
         SpellsFormulaPiece w ts g → f ≡ g }
 {}
 
@@ -55,12 +55,12 @@ pub fn whole_formulas()
 /// declared, none strays from a well formed one. The formula has at most as many comparisons and `true`s
 /// as the piece has terminals.
 pub fn good_formulas()
-    ensures conditions { (w : Word) (k : Kinds) (p : Places) (f : Formula) (ts : List Terminal) →
+    ensures conditions { (w : ReservedWord) (k : Kinds) (p : Places) (f : Formula) (ts : List Terminal) →
         SpellsFormulaPiece w ts (formula_tree f) → first_stray (Plain k) p 0 ts ≡ None →
         IsTrue (is_good_formula k p f) }
-    ensures kept { (w : Word) (k : Kinds) (p : Places) (f : Formula) (ts : List Terminal) →
+    ensures kept { (w : ReservedWord) (k : Kinds) (p : Places) (f : Formula) (ts : List Terminal) →
         SpellsFormulaPiece w ts (formula_tree f) → IsTrue (list_all is_declared ts) →
         IsTrue (is_good_formula k p f) → first_stray (Plain k) p 0 ts ≡ None }
-    ensures sizes { (w : Word) (f : Formula) (ts : List Terminal) →
+    ensures sizes { (w : ReservedWord) (f : Formula) (ts : List Terminal) →
         SpellsFormulaPiece w ts (formula_tree f) → comparisons f ≤ length ts }
 {}

@@ -7,7 +7,7 @@ ghost use Rattle.vp_terms.specs.declared.formula.Cmp.{Cmp};
 
 use crate::front::{after_symbol, first};
 use crate::terminal::{Symbol, Terminal};
-use vp_lex::Word;
+use vp_lex::ReservedWord;
 use vp_terms::Cmp;
 
 /// What a literal begins with, and what follows.
@@ -35,8 +35,8 @@ pub(crate) fn leads(terminals: &[Terminal]) -> Leading<'_>
     ensures { IsLeading terminals.now result }
 {
     match first(terminals) {
-        Some((Terminal::Word(Word::True), rest)) => Leading::True(rest),
-        Some((Terminal::Word(Word::False), rest)) => Leading::False(rest),
+        Some((Terminal::Word(ReservedWord::True), rest)) => Leading::True(rest),
+        Some((Terminal::Word(ReservedWord::False), rest)) => Leading::False(rest),
         Some((Terminal::Symbol(Symbol::SquareOpen), rest)) => Leading::Group(rest),
         Some((Terminal::Symbol(Symbol::Bang), rest)) => match after_symbol(
             Symbol::SquareOpen,

@@ -28,4 +28,4 @@ pub use formula::{formula_piece, whole_formula};
 pub use heading::is_heading;
 pub use strays::{Rule, first_stray};
 pub use terminal::{Operator, Span, Symbol, Terminal};
-pub use vp_lex::Word;
+pub use vp_lex::ReservedWord;

@@ -3,7 +3,7 @@ ghost use Rattle.std.specs.Prelude.{◌≡◌, ◌≤◌, ◌<◌, ◌^◌, leng
 ghost use Rattle.vp_grammar.specs.Strays.{first_stray, fits, is_control, is_control_number, is_due, is_known, is_set, is_state_number, kinds_of, set_behind, variable_span};
 
 use crate::terminal::{Span, Symbol, Terminal};
-use vp_lex::Word;
+use vp_lex::ReservedWord;
 use vp_terms::{Cmp, Kinds, Places, Var};
 
 /// What may stand in a piece, and what stands behind the names that it sets.
@@ -61,7 +61,7 @@ impl Rule {
             Rule::Plain(_) => false,
             Rule::Controller => matches!(rest, [Terminal::Symbol(Symbol::Assign), ..]),
             Rule::Flow => matches!(rest, [Terminal::Symbol(Symbol::Prime), ..]),
-            Rule::Slack => matches!(rest, [Terminal::Word(Word::From), ..]),
+            Rule::Slack => matches!(rest, [Terminal::Word(ReservedWord::From), ..]),
             Rule::Fallback => matches!(rest, [Terminal::Compare(Cmp::Eq), ..]),
         }
     }

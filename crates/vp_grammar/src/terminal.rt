@@ -1,5 +1,5 @@
 //! Terminals: what the tokens of a package's text stand for in the grammar.
-use vp_lex::Word;
+use vp_lex::ReservedWord;
 use vp_terms::{Cmp, Ratio, Var};
 
 /// Where a token stands in its text: from the byte `from` up to the byte `to`, which is the first
@@ -64,7 +64,7 @@ pub enum Operator {
 #[derive(Clone, Copy, Debug, PartialEq, Eq)]
 pub enum Terminal {
     /// A reserved word but `tau`, which is a variable.
-    Word(Word),
+    Word(ReservedWord),
     /// A symbol that is no operator and no comparison.
     Symbol(Symbol),
     /// `+`, `-`, `*`, `^`, `&` or `|`

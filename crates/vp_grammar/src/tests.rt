@@ -1,5 +1,5 @@
 use crate::{
-    Operator, ParseErr, Span, Symbol, Terminal, Word, formula_piece, whole_expression,
+    Operator, ParseErr, ReservedWord, Span, Symbol, Terminal, formula_piece, whole_expression,
     whole_formula,
 };
 use std::alloc::Global;
@@ -31,11 +31,11 @@ fn symbol(token: &str) -> Option<Symbol> {
     }
 }
 
-fn word(token: &str) -> Option<Word> {
+fn word(token: &str) -> Option<ReservedWord> {
     match token {
-        "init" => Some(Word::Init),
-        "true" => Some(Word::True),
-        "false" => Some(Word::False),
+        "init" => Some(ReservedWord::Init),
+        "true" => Some(ReservedWord::True),
+        "false" => Some(ReservedWord::False),
         _ => None,
     }
 }
@@ -165,7 +165,11 @@ fn pieces(rt: HostRuntime) -> Result<(), Fail> {
         ("true ;", "form"),
         ("init ;", "form"),
     ] {
-        let read = formula_piece(alloc, Word::Init, terminals(alloc, line)?.as_slice());
+        let read = formula_piece(
+            alloc,
+            ReservedWord::Init,
+            terminals(alloc, line)?.as_slice(),
+        );
         assert_eq!(rt; shown(alloc, read)?.as_str(), expected, "of {line}");
     }
     Ok(())

@@ -1,10 +1,10 @@
 -- The reserved words.
 use Rattle.std.specs.Prelude.{ℕ, ◌≡◌, List, codes}
-use Rattle.vp_lex.specs.declared.word.Word.{Word}
-use Rattle.vp_lex.specs.declared.word.Word.TheVariants as word
+use Rattle.vp_lex.specs.declared.word.ReservedWord.{ReservedWord}
+use Rattle.vp_lex.specs.declared.word.ReservedWord.TheVariants as word
 
 -- how a reserved word is spelled
-abbrev pub word_text : Word → List ℕ
+abbrev pub word_text : ReservedWord → List ℕ
 word_text word.Package = codes "package"
 word_text word.Params = codes "params"
 word_text word.States = codes "states"
@@ -36,4 +36,4 @@ word_text word.Tau = codes "tau"
 
 -- the bytes spell a reserved word
 unfoldable pub IsReserved : List ℕ → Type 0
-IsReserved bytes = (w : Word) × (bytes ≡ word_text w)
+IsReserved bytes = (w : ReservedWord) × (bytes ≡ word_text w)

@@ -3,7 +3,7 @@ ghost use Rattle.std.specs.Prelude.{◌≡◌, ℕ, List, Result};
 ghost use Rattle.vp_lex.specs.Reserved.{word_text};
 ghost use Rattle.vp_lex.specs.Tokens.{Tokenizes};
 ghost use Rattle.vp_lex.specs.declared.token.Token.{Token};
-ghost use Rattle.vp_lex.specs.declared.word.Word.{Word};
+ghost use Rattle.vp_lex.specs.declared.word.ReservedWord.{ReservedWord};
 
 /// A text has one list of tokens, or one first byte in no token, and never both.
 pub fn one_tokenization()
@@ -12,5 +12,5 @@ pub fn one_tokenization()
 
 /// No two reserved words are spelled alike.
 pub fn one_spelling()
-    ensures { (v w : Word) → word_text v ≡ word_text w → v ≡ w }
+    ensures { (v w : ReservedWord) → word_text v ≡ word_text w → v ≡ w }
 {}

@@ -12,4 +12,4 @@ mod word;
 
 pub use scan::tokens;
 pub use token::{LexErr, Token, TokenKind};
-pub use word::Word;
+pub use word::ReservedWord;

@@ -4,7 +4,7 @@ ghost use Rattle.vp_lex.specs.Reserved.{IsReserved, word_text};
 
 /// A reserved word.
 #[derive(Clone, Copy, Debug, PartialEq, Eq)]
-pub enum Word {
+pub enum ReservedWord {
     /// `package`
     Package,
     /// `params`
@@ -63,71 +63,71 @@ pub enum Word {
     Tau,
 }
 
-const WORDS: [Word; 28] = [
-    Word::Package,
-    Word::Params,
-    Word::States,
-    Word::Controls,
-    Word::Init,
-    Word::Inv,
-    Word::Safe,
-    Word::Ctrl,
-    Word::Time,
-    Word::To,
-    Word::Flow,
-    Word::Slack,
-    Word::From,
-    Word::Domain,
-    Word::Fallback,
-    Word::Cert,
-    Word::Step,
-    Word::Pos,
-    Word::Sum,
-    Word::Eq,
-    Word::Of,
-    Word::Times,
-    Word::Sq,
-    Word::If,
-    Word::Else,
-    Word::True,
-    Word::False,
-    Word::Tau,
+const WORDS: [ReservedWord; 28] = [
+    ReservedWord::Package,
+    ReservedWord::Params,
+    ReservedWord::States,
+    ReservedWord::Controls,
+    ReservedWord::Init,
+    ReservedWord::Inv,
+    ReservedWord::Safe,
+    ReservedWord::Ctrl,
+    ReservedWord::Time,
+    ReservedWord::To,
+    ReservedWord::Flow,
+    ReservedWord::Slack,
+    ReservedWord::From,
+    ReservedWord::Domain,
+    ReservedWord::Fallback,
+    ReservedWord::Cert,
+    ReservedWord::Step,
+    ReservedWord::Pos,
+    ReservedWord::Sum,
+    ReservedWord::Eq,
+    ReservedWord::Of,
+    ReservedWord::Times,
+    ReservedWord::Sq,
+    ReservedWord::If,
+    ReservedWord::Else,
+    ReservedWord::True,
+    ReservedWord::False,
+    ReservedWord::Tau,
 ];
 
-impl Word {
+impl ReservedWord {
     /// How the word is spelled.
     pub fn text(self) -> &'static str
         ensures { result.now ≡ word_text self }
     {
         match self {
-            Word::Package => "package",
-            Word::Params => "params",
-            Word::States => "states",
-            Word::Controls => "controls",
-            Word::Init => "init",
-            Word::Inv => "inv",
-            Word::Safe => "safe",
-            Word::Ctrl => "ctrl",
-            Word::Time => "time",
-            Word::To => "to",
-            Word::Flow => "flow",
-            Word::Slack => "slack",
-            Word::From => "from",
-            Word::Domain => "domain",
-            Word::Fallback => "fallback",
-            Word::Cert => "cert",
-            Word::Step => "step",
-            Word::Pos => "pos",
-            Word::Sum => "sum",
-            Word::Eq => "eq",
-            Word::Of => "of",
-            Word::Times => "times",
-            Word::Sq => "sq",
-            Word::If => "if",
-            Word::Else => "else",
-            Word::True => "true",
-            Word::False => "false",
-            Word::Tau => "tau",
+            ReservedWord::Package => "package",
+            ReservedWord::Params => "params",
+            ReservedWord::States => "states",
+            ReservedWord::Controls => "controls",
+            ReservedWord::Init => "init",
+            ReservedWord::Inv => "inv",
+            ReservedWord::Safe => "safe",
+            ReservedWord::Ctrl => "ctrl",
+            ReservedWord::Time => "time",
+            ReservedWord::To => "to",
+            ReservedWord::Flow => "flow",
+            ReservedWord::Slack => "slack",
+            ReservedWord::From => "from",
+            ReservedWord::Domain => "domain",
+            ReservedWord::Fallback => "fallback",
+            ReservedWord::Cert => "cert",
+            ReservedWord::Step => "step",
+            ReservedWord::Pos => "pos",
+            ReservedWord::Sum => "sum",
+            ReservedWord::Eq => "eq",
+            ReservedWord::Of => "of",
+            ReservedWord::Times => "times",
+            ReservedWord::Sq => "sq",
+            ReservedWord::If => "if",
+            ReservedWord::Else => "else",
+            ReservedWord::True => "true",
+            ReservedWord::False => "false",
+            ReservedWord::Tau => "tau",
         }
     }
 
@@ -139,7 +139,7 @@ impl Word {
 
     /// The reserved word of these bytes.
     #[tactic(auto, unfolding(crate::specs::Reserved::IsReserved))]
-    pub fn of(bytes: &[u8]) -> Option<Word>
+    pub fn of(bytes: &[u8]) -> Option<ReservedWord>
         ensures { MatchOption result (IsReserved bytes.now → ⊥) (λ w. bytes.now ≡ word_text w) }
     {
         for word in &WORDS {
@@ -156,5 +156,5 @@ impl Word {
 pub(crate) fn is_reserved(bytes: &[u8]) -> bool
     ensures { IsTrue result ↔ IsReserved bytes.now }
 {
-    Word::of(bytes).is_some()
+    ReservedWord::of(bytes).is_some()
 }

@@ -269,6 +269,14 @@ module _ (p : Places) where
         let same = IsCanonical-unique (own e).den (coefficients (variables p) e) b.0 ts (record { poly = b.1.poly; coefficients = b.1.coefs }) c in
         (b.1.positive, subst (λ (l : List Term). IsTimes (own e).den (value_at l x) (value e a)) same (b.1.values x a at))
 
+    pub canonical_is_weighed : (e : Expr) → IsTrue (all_variables (has_variable p) e) → fits (weight_in p (own_weights (place_count p)) e) ≡ true → (ts : List Term) → IsCanonical (weight_in p (own_weights (place_count p)) e).den ts (coefficients (variables p) e) →
+        IsWeighed ts (weight_in p (own_weights (place_count p)) e)
+    unfolding own
+    canonical_is_weighed e h f ts c =
+        let b = built e h f in
+        let same = IsCanonical-unique (own e).den (coefficients (variables p) e) b.0 ts (record { poly = b.1.poly; coefficients = b.1.coefs }) c in
+        subst (λ (l : List Term). IsWeighed l (own e)) same b.1.weighed
+
     pub value_of_difference : (l r : Expr) → IsTrue (all_variables (has_variable p) l) → IsTrue (all_variables (has_variable p) r) → fits (weight_between p (own_weights (place_count p)) l r) ≡ true →
         (ts : List Term) → IsCanonical (weight_between p (own_weights (place_count p)) l r).den ts (λ m. difference (coefficients (variables p) l m) (coefficients (variables p) r m)) →
         (x : Point) (a : Assignment) → IsAt p x a → (0 < (weight_between p (own_weights (place_count p)) l r).den) × IsTimes (weight_between p (own_weights (place_count p)) l r).den (value_at ts x) (difference (value l a) (value r a))

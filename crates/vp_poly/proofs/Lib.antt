@@ -31,3 +31,4 @@ pub mod Splitting
 pub mod WholeLaws
 pub mod Saturation
 pub mod Existing
+pub mod Told

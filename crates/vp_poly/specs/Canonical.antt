@@ -2,10 +2,11 @@
 use Rattle.std.specs.Prelude.{◌≡◌, true, List, [], ◌∷◌, ℕ, length, map, pos, replicate, slice_get, slice_set, Bool, IfSome, IsTrue, All}
 use Rattle.std.specs.List.{range_with_len}
 use Rattle.vp_terms.specs.Rational.{whole}
-use Rattle.vp_terms.specs.Places.{place, has_variable}
+use Rattle.vp_terms.specs.Places.{place, place_count, has_variable}
 use Rattle.vp_terms.specs.Meaning.{Assignment}
 use Rattle.vp_terms.specs.declared.expr.Places.{Places}
 use Rattle.vp_terms.specs.declared.expr.Var.{Var}
+use Rattle.vp_terms.specs.declared.expr.Expr.{Expr}
 use Rattle.vp_poly.specs.declared.mono.Term.{Term}
 use Rattle.vp_poly.specs.declared.scaled.Scaled.{Scaled}
 use Rattle.vp_poly.specs.Poly.{Powers, IsPoly, IsWithin}
@@ -13,7 +14,7 @@ use Rattle.vp_poly.specs.Places.{AreBelow, HaveOnly}
 use Rattle.vp_poly.specs.Value.{Point, value_at}
 use Rattle.vp_poly.specs.Coefficient.{Coefficients, fraction_at}
 use Rattle.vp_poly.specs.Times.{IsTimes, HasCoefficients}
-use Rattle.vp_poly.specs.Weights.{Weights, fits, weight_one}
+use Rattle.vp_poly.specs.Weights.{Weights, fits, weight_in, weight_one}
 
 -- the list of all d * f(m) that aren't 0, in order
 pub record IsCanonical (d : ℕ) (ts : List Term) (f : Coefficients) : Type 0 where
@@ -67,6 +68,10 @@ selves n = map itself (range_with_len 0 n)
 
 abbrev pub own_weights : ℕ → List Weights
 own_weights n = weights_of (selves n)
+
+-- the weight of an expression over them
+abbrev pub own_weight : Places → Expr → Weights
+own_weight p e = weight_in p (own_weights (place_count p)) e
 
 -- the coefficients of the variables
 abbrev pub variables : Places → Var → Coefficients

@@ -1,6 +1,7 @@
 //! Laws of polynomials, weights and coefficients: the contracts of these functions say them, and
 //! their bodies do nothing.
-ghost use Rattle.std.specs.Prelude.{◌≡◌, ◌+◌, ◌*◌, ◌/◌, ◌^◌, ◌+ℤ◌, ◌*ℤ◌, ◌<◌, ◌≤◌, ℕ, ℤ, Bool, IsTrue, List, length, nat_lt, pos, swap, true};
+ghost use Rattle.std.specs.Prelude.{◌≡◌, ◌≢◌, ◌+◌, ◌*◌, ◌/◌, ◌^◌, ◌+ℤ◌, ◌*ℤ◌, ◌<◌, ◌≤◌, ℕ, ℤ, Bool, IsTrue, List, ◌∷◌, false, length, nat_lt, pos, slice_index, sum as sum_of, swap, true, unsigned_abs};
+ghost use Rattle.std.specs.declared.cmp.Ordering.TheVariants.{Less};
 ghost use Rattle.std.specs.List.{range_with_len};
 ghost use Rattle.std.specs.Int.{IsGcd};
 ghost use Rattle.vp_terms.specs.Rational.{Rational, Equals, difference, product, sum, whole};
@@ -13,19 +14,20 @@ ghost use Rattle.vp_terms.specs.declared.formula.Formula.{Formula};
 ghost use Rattle.vp_terms.specs.declared.formula.Cmp.{Cmp};
 ghost use Rattle.vp_terms.specs.declared.expr.Var.{Var};
 ghost use Rattle.vp_terms.specs.declared.expr.Expr.{Expr};
+ghost use Rattle.vp_poly.specs.declared.mono.Mono.{Mono};
 ghost use Rattle.vp_poly.specs.declared.mono.Term.{Term};
-ghost use Rattle.vp_poly.specs.Poly.{Powers, IsPoly, coef, degree, norm};
+ghost use Rattle.vp_poly.specs.Poly.{Powers, IsPoly, IsWithin, coef, degree, mono_cmp, norm, only_at, unless_zero};
 ghost use Rattle.vp_poly.specs.Places.{AreBelow, HaveOnly, IsRenaming, before_renaming, point_before};
 ghost use Rattle.vp_poly.specs.Points.{IsAt, Sends};
 ghost use Rattle.vp_poly.specs.Whole.{IsWhole, whole_value};
-ghost use Rattle.vp_poly.specs.Value.{Point, value_at};
+ghost use Rattle.vp_poly.specs.Value.{Point, powers_value, value_at};
 ghost use Rattle.vp_poly.specs.Lcm.{Shares, gcd, lcm};
 ghost use Rattle.vp_poly.specs.Coefficient.{Coefficients, coefficients, times};
 ghost use Rattle.vp_poly.specs.Product.{IsProduct, IsTotal, split_sum};
 ghost use Rattle.vp_poly.specs.Times.{HasCoefficients, IsTimes};
 ghost use Rattle.vp_poly.specs.Weights.{Weights, fits, weight, weight_between, weight_in};
 ghost use Rattle.vp_poly.specs.Unbounded.{exact_weight, all_fit};
-ghost use Rattle.vp_poly.specs.Canonical.{IsCanonical, own_weights, values_at, variables};
+ghost use Rattle.vp_poly.specs.Canonical.{IsCanonical, IsWeighed, own_weight, own_weights, values_at, variables};
 ghost use Rattle.vp_poly.specs.Replaced.{formula_replaced, replaced};
 
 /// A polynomial is known by its coefficients, so an expression has one canonical polynomial.
@@ -47,12 +49,16 @@ pub fn values_respect_equality()
 {}
 
 /// What has places that pass a test has places that pass a weaker one, and to have places below a
-/// number is such a test.
+/// number is such a test. Where each monomial with an exponent at another place has the coefficient 0,
+/// the polynomial has only places that pass.
 pub fn places_pass_tests()
     ensures weaker { (allowed kept : ℕ → Bool) (ts : List Term) →
         ((k : ℕ) → IsTrue (allowed k) → IsTrue (kept k)) → HaveOnly allowed ts → HaveOnly kept ts }
     ensures below { (v : ℕ) (ts : List Term) → AreBelow v ts → HaveOnly (λ k. nat_lt k v) ts }
     ensures passed { (v : ℕ) (ts : List Term) → HaveOnly (λ k. nat_lt k v) ts → AreBelow v ts }
+    ensures told { (allowed : ℕ → Bool) (ts : List Term) → IsPoly ts →
+        ((m : Powers) (k : ℕ) → length m ≡ 32 → allowed k ≡ false → slice_index m k ≢ 0 → coef ts m ≡ pos 0) →
+        HaveOnly allowed ts }
 {}
 
 /// Each assignment is that of some point, and two at one point agree on the variables of the model.
@@ -201,20 +207,20 @@ pub fn coefficients_combine()
 {}
 
 /// Where variables stand for themselves, an expression that isn't over has a canonical polynomial, and
-/// what is the canonical polynomial of an expression, or of the difference of two, has its values.
+/// what is the canonical polynomial of an expression, or of the difference of two, has its values. That
+/// of an expression is within its weight.
 pub fn canonical_polynomials_have_values()
     ensures some { (p : Places) → place_count p ≤ 32 → (e : Expr) →
-        IsTrue (all_variables (has_variable p) e) →
-        fits (weight_in p (own_weights (place_count p)) e) ≡ true →
-        (ts : List Term) ×
-        IsCanonical (weight_in p (own_weights (place_count p)) e).den ts (coefficients (variables p) e) }
+        IsTrue (all_variables (has_variable p) e) → fits (own_weight p e) ≡ true →
+        (ts : List Term) × IsCanonical (own_weight p e).den ts (coefficients (variables p) e) }
     ensures values { (p : Places) → place_count p ≤ 32 → (e : Expr) →
-        IsTrue (all_variables (has_variable p) e) →
-        fits (weight_in p (own_weights (place_count p)) e) ≡ true → (ts : List Term) →
-        IsCanonical (weight_in p (own_weights (place_count p)) e).den ts (coefficients (variables p) e) →
+        IsTrue (all_variables (has_variable p) e) → fits (own_weight p e) ≡ true → (ts : List Term) →
+        IsCanonical (own_weight p e).den ts (coefficients (variables p) e) →
         (x : Point) (a : Assignment) → IsAt p x a →
-        (0 < (weight_in p (own_weights (place_count p)) e).den) ×
-        IsTimes (weight_in p (own_weights (place_count p)) e).den (value_at ts x) (value e a) }
+        (0 < (own_weight p e).den) × IsTimes (own_weight p e).den (value_at ts x) (value e a) }
+    ensures weighed { (p : Places) → place_count p ≤ 32 → (e : Expr) →
+        IsTrue (all_variables (has_variable p) e) → fits (own_weight p e) ≡ true → (ts : List Term) →
+        IsCanonical (own_weight p e).den ts (coefficients (variables p) e) → IsWeighed ts (own_weight p e) }
     ensures differences { (p : Places) → place_count p ≤ 32 → (e f : Expr) →
         IsTrue (all_variables (has_variable p) e) → IsTrue (all_variables (has_variable p) f) →
         fits (weight_between p (own_weights (place_count p)) e f) ≡ true → (ts : List Term) →
@@ -226,11 +232,31 @@ pub fn canonical_polynomials_have_values()
         (difference (value e a) (value f a)) }
 {}
 
-/// Two polynomials have a sum and a product, where these are within the bounds.
+/// A term within the bounds is a polynomial, unless its coefficient is 0; then the empty list is.
+pub fn terms_are_polynomials()
+    ensures poly { (t : Term) → length t.mono.powers ≡ 32 → sum_of t.mono.powers ≤ 48 →
+        unsigned_abs t.coef < 2 ^ 126 → IsPoly (unless_zero t) }
+    ensures coefficients { (t : Term) (m : Powers) →
+        coef (unless_zero t) m ≡ only_at t.mono.powers m t.coef }
+    ensures values { (t : Term) (x : Point) →
+        Equals (value_at (unless_zero t) x) (product (whole t.coef) (powers_value 0 t.mono.powers x)) }
+    ensures sizes { (t : Term) → IsWithin (unless_zero t) (unsigned_abs t.coef) (sum_of t.mono.powers) 1 }
+{}
+
+/// A monomial that stands before the first one of a polynomial has the coefficient 0.
+pub fn polynomials_are_ordered()
+    ensures { (t : Term) (ts : List Term) (m : Mono) → IsPoly (t ∷ ts) → mono_cmp m t.mono ≡ Less →
+        coef (t ∷ ts) m.powers ≡ pos 0 }
+{}
+
+/// Two polynomials have a sum and a product, and one has its multiples, where these are within the
+/// bounds.
 pub fn polynomials_add_and_multiply()
     ensures sums { (xs ys : List Term) → IsPoly xs → IsPoly ys → norm xs + norm ys < 2 ^ 126 →
         length xs + length ys < 2 ^ 32 → (zs : List Term) × IsTotal xs ys zs }
     ensures products { (xs ys : List Term) → IsPoly xs → IsPoly ys → norm xs * norm ys < 2 ^ 126 →
         length xs * length ys < 2 ^ 32 → degree xs + degree ys ≤ 48 →
         (zs : List Term) × IsProduct xs ys zs }
+    ensures multiples { (k : ℕ) (xs : List Term) → IsPoly xs → 0 < k → norm xs * k < 2 ^ 126 →
+        (zs : List Term) × IsPoly zs × ((m : Powers) → coef zs m ≡ pos k *ℤ coef xs m) }
 {}

@@ -22,8 +22,8 @@ use Rattle.vp_grammar.specs.declared.entries.Mark.TheVariants.{Rate, Setting}
 use Rattle.vp_grammar.specs.declared.strays.Rule.{Rule}
 use Rattle.vp_grammar.specs.declared.strays.Rule.TheVariants.{Plain, Controller, Flow, Slack, Fallback}
 use Rattle.vp_grammar.specs.declared.terminal.Span.{Span}
-use Rattle.vp_lex.specs.declared.word.Word.{Word}
-use Rattle.vp_lex.specs.declared.word.Word.TheVariants as word
+use Rattle.vp_lex.specs.declared.word.ReservedWord.{ReservedWord}
+use Rattle.vp_lex.specs.declared.word.ReservedWord.TheVariants as word
 use Rattle.vp_grammar.specs.declared.terminal.Terminal.{Terminal}
 use Rattle.vp_grammar.specs.Certificates.{SpellsCert}
 use Rattle.vp_terms.specs.Packages.{cert_tree}
@@ -41,12 +41,12 @@ use Rattle.vp_read.proofs.AgainSteps.{standing}
 
 -- what the laws of the grammar say of terminals of which no variable strays
 pub record GrammarLaws : Type 0 where
-  pub conditions : (w : Word) (k : Kinds) (p : Places) (f : Formula) (ts : List Terminal) → SpellsFormulaPiece w ts (formula_tree f) → first_stray (Plain k) p 0 ts ≡ None → IsTrue (is_good_formula k p f)
-  pub sizes : (w : Word) (f : Formula) (ts : List Terminal) → SpellsFormulaPiece w ts (formula_tree f) → comparisons f ≤ length ts
+  pub conditions : (w : ReservedWord) (k : Kinds) (p : Places) (f : Formula) (ts : List Terminal) → SpellsFormulaPiece w ts (formula_tree f) → first_stray (Plain k) p 0 ts ≡ None → IsTrue (is_good_formula k p f)
+  pub sizes : (w : ReservedWord) (f : Formula) (ts : List Terminal) → SpellsFormulaPiece w ts (formula_tree f) → comparisons f ≤ length ts
   pub controllers : (p : Places) (q : Prog) (ts : List Terminal) → SpellsController ts (prog_tree q) → first_stray Controller p 0 ts ≡ None → IsTrue (is_good_prog p q)
   pub controller_sizes : (q : Prog) (ts : List Terminal) → SpellsController ts (prog_tree q) → prog_comparisons q ≤ length ts
-  pub rates : (p : Places) (w : Word) (ts : List Terminal) (es : List Expr) → SpellsEntries w Rate ts (map expr_tree es) → first_stray Flow p 0 ts ≡ None → IsTrue (list_all (is_good_expr in_model p) es)
-  pub settings : (p : Places) (w : Word) (ts : List Terminal) (es : List Expr) → SpellsEntries w Setting ts (map expr_tree es) → first_stray Fallback p 0 ts ≡ None → IsTrue (list_all (is_good_expr in_model p) es)
+  pub rates : (p : Places) (w : ReservedWord) (ts : List Terminal) (es : List Expr) → SpellsEntries w Rate ts (map expr_tree es) → first_stray Flow p 0 ts ≡ None → IsTrue (list_all (is_good_expr in_model p) es)
+  pub settings : (p : Places) (w : ReservedWord) (ts : List Terminal) (es : List Expr) → SpellsEntries w Setting ts (map expr_tree es) → first_stray Fallback p 0 ts ≡ None → IsTrue (list_all (is_good_expr in_model p) es)
   pub bounds : (p : Places) (ts : List Terminal) (ss : List SlackOf) → SpellsBounds ts (map slack_tree ss) → first_stray Slack p 0 ts ≡ None → IsTrue (list_all (is_good_slack p) ss)
   pub times : (p : Places) (e f : Expr) (ts : List Terminal) → SpellsTimes ts (expr_tree e, expr_tree f) → first_stray (Plain in_time) p 0 ts ≡ None → IsTrue (is_good_expr in_time p e) × IsTrue (is_good_expr in_time p f)
   pub certificates : (p : Places) (c : Cert) (ts : List Terminal) → SpellsCert ts (cert_tree c) → first_stray (Plain in_certificate) p 0 ts ≡ None → IsTrue (is_good_cert p c)
@@ -128,7 +128,7 @@ small f k (p ∷ ps) zero e = omega (arith, length-map p f, (shallow p k (first_
 small f k (p ∷ ps) (suc n) e = small f (k + 1) ps n (shallow p k (first_deep (k + 1) ps) e).1
 
 -- a formula's piece
-pub condition : (g : GrammarLaws) (w : Word) (p : Places) (f : Formula) (ts : List Terminal) → SpellsFormulaPiece w ts (formula_tree f) → first_stray (Plain in_model) p 0 ts ≡ None → length ts ≤ 2048 → IsGoodCondition p f
+pub condition : (g : GrammarLaws) (w : ReservedWord) (p : Places) (f : Formula) (ts : List Terminal) → SpellsFormulaPiece w ts (formula_tree f) → first_stray (Plain in_model) p 0 ts ≡ None → length ts ≤ 2048 → IsGoodCondition p f
 condition g w p f ts s e l = record { variables = g.conditions w in_model p f ts s e; size = omega (arith, g.sizes w f ts s, l) }
 
 -- no name stands twice
@@ -163,7 +163,7 @@ none_before before (n ∷ ns) e = of (contains before n) refl e (λ f. none_befo
     of false g e f = (All-cons (λ (a : List ℕ). contains before a ≡ false) n ns g (olds ns (f e).0), AllPairs-cons (λ (a b : List ℕ). a ≢ b) n ns (news ns (f e).0) (f e).1)
 
 -- as many names as are asked for
-listed_some : (text : List ℕ) (w : Word) (least : ℕ) (ts : List Terminal) (spans : List Span) (names : List (List ℕ)) → SpellsNames w least ts spans → names ≡ spelled text spans → least ≤ length names
+listed_some : (text : List ℕ) (w : ReservedWord) (least : ℕ) (ts : List Terminal) (spans : List Span) (names : List (List ℕ)) → SpellsNames w least ts spans → names ≡ spelled text spans → least ≤ length names
 listed_some text w least ts spans names s e =
     let count : length spans ≡ length s.0 = ap length s.2 ∙ length-map s.0 (λ n. n.0) in
     let all : length names ≡ length spans = ap length e ∙ length-map spans (λ (z : Span). span_text text z) in

@@ -10,8 +10,8 @@ use Rattle.vp_terms.specs.WellFormed.{all_names, places_of}
 use Rattle.vp_lex.specs.declared.token.Token.{Token}
 use Rattle.vp_lex.specs.Tokens.{Tokenizes}
 use Rattle.vp_grammar.specs.declared.terminal.Span.{Span}
-use Rattle.vp_lex.specs.declared.word.Word.{Word}
-use Rattle.vp_lex.specs.declared.word.Word.TheVariants as word
+use Rattle.vp_lex.specs.declared.word.ReservedWord.{ReservedWord}
+use Rattle.vp_lex.specs.declared.word.ReservedWord.TheVariants as word
 use Rattle.vp_grammar.specs.declared.terminal.Terminal.{Terminal}
 use Rattle.vp_grammar.specs.declared.entries.Mark.{Mark}
 use Rattle.vp_grammar.specs.declared.entries.Mark.TheVariants as mark
@@ -35,10 +35,10 @@ use Rattle.vp_read.proofs.OneTerminal.{TextsTell, bad_stands_not, one_bad, one_t
 pub record OneForms : Type 0 where
   pub tokens : (text : List ℕ) (r s : Result (List Token) ℕ) → Tokenizes text r → Tokenizes text s → r ≡ s
   pub texts : TextsTell
-  pub names : (w : Word) (least : ℕ) (ts : List Terminal) (a b : List Span) → SpellsNames w least ts a → SpellsNames w least ts b → a ≡ b
-  pub formulas : (w : Word) (ts : List Terminal) (f g : FormulaTree) → SpellsFormulaPiece w ts f → SpellsFormulaPiece w ts g → f ≡ g
+  pub names : (w : ReservedWord) (least : ℕ) (ts : List Terminal) (a b : List Span) → SpellsNames w least ts a → SpellsNames w least ts b → a ≡ b
+  pub formulas : (w : ReservedWord) (ts : List Terminal) (f g : FormulaTree) → SpellsFormulaPiece w ts f → SpellsFormulaPiece w ts g → f ≡ g
   pub controllers : (ts : List Terminal) (t u : ProgTree) → SpellsController ts t → SpellsController ts u → t ≡ u
-  pub entries : (w : Word) (m : Mark) (ts : List Terminal) (a b : List ExprTree) → SpellsEntries w m ts a → SpellsEntries w m ts b → a ≡ b
+  pub entries : (w : ReservedWord) (m : Mark) (ts : List Terminal) (a b : List ExprTree) → SpellsEntries w m ts a → SpellsEntries w m ts b → a ≡ b
   pub bounds : (ts : List Terminal) (a b : List (ExprTree × ExprTree)) → SpellsBounds ts a → SpellsBounds ts b → a ≡ b
   pub times : (ts : List Terminal) (a b : ExprTree × ExprTree) → SpellsTimes ts a → SpellsTimes ts b → a ≡ b
   pub certificates : (ts : List Terminal) (t u : CertTree) → SpellsCert ts t → SpellsCert ts u → t ≡ u

@@ -13,8 +13,8 @@ use Rattle.vp_lex.specs.declared.token.TokenKind.{TokenKind}
 use Rattle.vp_lex.specs.declared.token.TokenKind.TheVariants as kind
 use Rattle.vp_lex.specs.Reserved.{word_text}
 use Rattle.vp_grammar.specs.declared.terminal.Span.{Span}
-use Rattle.vp_lex.specs.declared.word.Word.{Word}
-use Rattle.vp_lex.specs.declared.word.Word.TheVariants as word
+use Rattle.vp_lex.specs.declared.word.ReservedWord.{ReservedWord}
+use Rattle.vp_lex.specs.declared.word.ReservedWord.TheVariants as word
 use Rattle.vp_grammar.specs.declared.terminal.Symbol.{Symbol}
 use Rattle.vp_grammar.specs.declared.terminal.Symbol.TheVariants as symbol
 use Rattle.vp_grammar.specs.declared.terminal.Operator.{Operator}
@@ -84,11 +84,11 @@ IsTold text t x = told (token_text text t) t.kind (span_of t) ≡ Some x
 abbrev IsCounted : List ℕ → Token → Terminal → Type 0
 IsCounted text t x = (t.kind ≡ kind.Number) × (r : Ratio) × IsNumber (token_text text t) r × (x ≡ terminal.Number r (is_whole (token_text text t)))
 
-abbrev IsWord : Token → Word → Terminal → Type 0
+abbrev IsWord : Token → ReservedWord → Terminal → Type 0
 IsWord t w x = ((w ≢ word.Tau) × (x ≡ terminal.Word w)) ⊎ ((w ≡ word.Tau) × (x ≡ terminal.Variable (span_of t) (Some Tau)))
 
 abbrev IsWorded : List ℕ → Token → Terminal → Type 0
-IsWorded text t x = (t.kind ≡ kind.Word) × (w : Word) × (token_text text t ≡ word_text w) × IsWord t w x
+IsWorded text t x = (t.kind ≡ kind.Word) × (w : ReservedWord) × (token_text text t ≡ word_text w) × IsWord t w x
 
 abbrev IsKnown : List ℕ → Token → Terminal → Type 0
 IsKnown text t x = IsTold text t x ⊎ (IsCounted text t x ⊎ IsWorded text t x)
@@ -127,9 +127,9 @@ some_same x y e = cc
 -- a text writes one number, and no two reserved words are spelled alike
 pub record TextsTell : Type 0 where
   pub numbers : (text : List ℕ) (a b : Ratio) → IsNumber text a → IsNumber text b → a ≡ b
-  pub words : (v w : Word) → word_text v ≡ word_text w → v ≡ w
+  pub words : (v w : ReservedWord) → word_text v ≡ word_text w → v ≡ w
 
-one_word : (t : Token) (v w : Word) (x y : Terminal) → v ≡ w → IsWord t v x → IsWord t w y → x ≡ y
+one_word : (t : Token) (v w : ReservedWord) (x y : Terminal) → v ≡ w → IsWord t v x → IsWord t w y → x ≡ y
 one_word t v w x y e (inl a) (inl b) = a.1 ∙ ap terminal.Word e ∙ sym b.1
 one_word t v w x y e (inl a) (inr b) = absurd (a.0 (e ∙ b.0))
 one_word t v w x y e (inr a) (inl b) = absurd (b.0 (sym e ∙ a.0))

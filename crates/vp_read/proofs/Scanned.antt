@@ -6,7 +6,7 @@ use Rattle.vp_terms.specs.declared.expr.Var.TheVariants.{Tau}
 use Rattle.vp_lex.specs.declared.token.Token.{Token}
 use Rattle.vp_lex.specs.declared.token.TokenKind.{TokenKind}
 use Rattle.vp_lex.specs.declared.token.TokenKind.TheVariants as kind
-use Rattle.vp_lex.specs.declared.word.Word.TheVariants as word
+use Rattle.vp_lex.specs.declared.word.ReservedWord.TheVariants as word
 use Rattle.vp_lex.specs.Reserved.{word_text}
 use Rattle.vp_lex.specs.Bytes.{is_word_byte}
 use Rattle.vp_lex.specs.Tokens.{Fills, IsGap, nothing, spaced, commented, IsToken, IsWordlike, Spells}

@@ -6,7 +6,7 @@ use Rattle.vp_terms.specs.declared.package.Cert.{Cert}
 use Rattle.vp_grammar.specs.declared.fault.ParseErr.{ParseErr}
 use Rattle.vp_grammar.specs.declared.fault.ParseErr.TheVariants as form
 use Rattle.vp_grammar.specs.declared.terminal.Terminal.{Terminal}
-use Rattle.vp_lex.specs.declared.word.Word.{Word}
+use Rattle.vp_lex.specs.declared.word.ReservedWord.{ReservedWord}
 use Rattle.vp_grammar.specs.Reads.{FailsAll}
 use Rattle.vp_grammar.specs.Entries.{SpellsNames}
 use Rattle.vp_grammar.specs.Certificates.{SpellsCert}
@@ -78,6 +78,6 @@ pub behind_is : (ps qs : List (Vec Terminal Global)) → qs ≡ drop 13 ps → m
 behind_is ps qs e = ap (map items) e ∙ drop_map items 13 ps
 
 -- terminals that are no list of names list no names
-pub no_list : (text : List ℕ) (w : Word) (least : ℕ) (p : List Terminal) (why : ParseErr) → FailsAll (SpellsNames w least p) why → FailsAll (IsListed text w least p) why
+pub no_list : (text : List ℕ) (w : ReservedWord) (least : ℕ) (p : List Terminal) (why : ParseErr) → FailsAll (SpellsNames w least p) why → FailsAll (IsListed text w least p) why
 no_list text w least p form.Form h = λ t x. h x.0 x.1
 no_list text w least p form.Memory h = tt

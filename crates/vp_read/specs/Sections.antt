@@ -6,8 +6,8 @@ use Rattle.vp_terms.specs.declared.package.Package.{Package}
 use Rattle.vp_terms.specs.Tree.{ExprTree, FormulaTree, ProgTree, expr_tree, formula_tree, prog_tree}
 use Rattle.vp_lex.specs.declared.token.Token.{Token}
 use Rattle.vp_grammar.specs.declared.terminal.Span.{Span}
-use Rattle.vp_lex.specs.declared.word.Word.{Word}
-use Rattle.vp_lex.specs.declared.word.Word.TheVariants as word
+use Rattle.vp_lex.specs.declared.word.ReservedWord.{ReservedWord}
+use Rattle.vp_lex.specs.declared.word.ReservedWord.TheVariants as word
 use Rattle.vp_grammar.specs.declared.terminal.Terminal.{Terminal}
 use Rattle.vp_grammar.specs.declared.entries.Mark.TheVariants as mark
 use Rattle.vp_grammar.specs.Heading.{SpellsHeading}
@@ -39,8 +39,8 @@ IsHeading text tokens p = SpellsHeading p × (second_text text tokens ≡ codes 
 
 -- what a piece behind the first is to be
 pub data Section : Type 0 where
-  listing : Word → ℕ → Section
-  condition : Word → Section
+  listing : ReservedWord → ℕ → Section
+  condition : ReservedWord → Section
   controller : Section
   time : Section
   flow : Section
@@ -136,7 +136,7 @@ of_form k form.Form = fault.Section k
 of_form k form.Memory = fault.Memory
 
 -- the names that a piece lists
-abbrev pub IsListed : List ℕ → Word → ℕ → List Terminal → List (List ℕ) → Type 0
+abbrev pub IsListed : List ℕ → ReservedWord → ℕ → List Terminal → List (List ℕ) → Type 0
 IsListed text w least p names = (spans : List Span) × SpellsNames w least p spans × (names ≡ spelled text spans)
 
 -- a piece's number for which Q holds is told, or memory ran out

@@ -14,7 +14,7 @@ use Rattle.vp_lex.specs.Tokens.{Tokenizes}
 use Rattle.vp_read.specs.declared.fault.ReadErr.{ReadErr}
 use Rattle.vp_read.specs.declared.fault.ReadErr.TheVariants as fault
 use Rattle.vp_grammar.specs.declared.terminal.Span.{Span}
-use Rattle.vp_lex.specs.declared.word.Word.TheVariants as word
+use Rattle.vp_lex.specs.declared.word.ReservedWord.TheVariants as word
 use Rattle.vp_grammar.specs.declared.terminal.Symbol.{Symbol}
 use Rattle.vp_grammar.specs.declared.terminal.Symbol.TheVariants as symbol
 use Rattle.vp_grammar.specs.declared.terminal.Operator.{Operator}

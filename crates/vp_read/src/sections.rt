@@ -6,7 +6,7 @@ ghost use Rattle.vp_grammar.specs.FormulaReads.{SpellsFormulaPiece};
 ghost use Rattle.vp_grammar.specs.Controllers.{SpellsController};
 ghost use Rattle.vp_grammar.specs.Entries.{SpellsEntries, SpellsBounds, SpellsTimes};
 ghost use Rattle.vp_terms.specs.Packages.{slack_tree};
-ghost use Rattle.vp_lex.specs.declared.word.Word.TheVariants as word;
+ghost use Rattle.vp_lex.specs.declared.word.ReservedWord.TheVariants as word;
 ghost use Rattle.vp_grammar.specs.declared.entries.Mark.TheVariants as mark;
 ghost use Rattle.vp_read.specs.Pieces.{items, piece};
 ghost use Rattle.vp_read.specs.Naming.{AreFew, IsWithin, StandsIn};
@@ -22,8 +22,8 @@ use crate::pieces::{
 use crate::terminals::token_text;
 use std::alloc::{AllocError, Global};
 use vp_grammar::{
-    Mark, ParseErr, Span, Terminal, Word, formula_piece, whole_certificate, whole_controller,
-    whole_entries,
+    Mark, ParseErr, ReservedWord, Span, Terminal, formula_piece, whole_certificate,
+    whole_controller, whole_entries,
 };
 use vp_lex::Token;
 use vp_terms::{Cert, Expr, Formula, Items, NameList, Names, Package, Plant, Prog, Slack};
@@ -41,7 +41,7 @@ pub(crate) fn refusal(number: u32, why: ParseErr) -> ReadErr
 // A piece that is a word, a formula and `;`.
 fn condition(
     alloc: Global,
-    word: Word,
+    word: ReservedWord,
     number: u32,
     pieces: &[Vec<Terminal>],
 ) -> Result<Formula, ReadErr>
@@ -77,7 +77,7 @@ fn times(alloc: Global, pieces: &[Vec<Terminal>]) -> Result<(Expr, Expr), ReadEr
 // A piece that lists expressions, each with its name.
 fn entries(
     alloc: Global,
-    word: Word,
+    word: ReservedWord,
     mark: Mark,
     number: u32,
     pieces: &[Vec<Terminal>],
@@ -140,7 +140,7 @@ fn spelled(alloc: Global, text: &[u8], spans: &[Span]) -> Result<Vec<String>, Al
 fn listed(
     alloc: Global,
     text: &[u8],
-    word: Word,
+    word: ReservedWord,
     least: usize,
     number: u32,
     pieces: &[Vec<Terminal>],
@@ -176,9 +176,9 @@ pub(crate) fn head(
     if !is_heading(text, tokens, piece(pieces, HEADING as usize)) {
         return Err(ReadErr::Section { piece: HEADING });
     }
-    let params = listed(alloc, text, Word::Params, 0, PARAMS, pieces)?;
-    let states = listed(alloc, text, Word::States, 1, STATES, pieces)?;
-    let controls = listed(alloc, text, Word::Controls, 1, CONTROLS, pieces)?;
+    let params = listed(alloc, text, ReservedWord::Params, 0, PARAMS, pieces)?;
+    let states = listed(alloc, text, ReservedWord::States, 1, STATES, pieces)?;
+    let controls = listed(alloc, text, ReservedWord::Controls, 1, CONTROLS, pieces)?;
     Ok(Names {
         params,
         states,
@@ -222,15 +222,21 @@ pub(crate) fn body(
     ensures reads { ReadsBody names (map items pieces.now) result }
     ensures short { IfOk result AreShort }
 {
-    let init = condition(alloc, Word::Init, INIT, pieces)?;
-    let inv = condition(alloc, Word::Inv, INV, pieces)?;
-    let safe = condition(alloc, Word::Safe, SAFE, pieces)?;
+    let init = condition(alloc, ReservedWord::Init, INIT, pieces)?;
+    let inv = condition(alloc, ReservedWord::Inv, INV, pieces)?;
+    let safe = condition(alloc, ReservedWord::Safe, SAFE, pieces)?;
     let ctrl = controller(alloc, pieces)?;
     let (low, high) = times(alloc, pieces)?;
-    let rates = entries(alloc, Word::Flow, Mark::Rate, FLOW, pieces)?;
+    let rates = entries(alloc, ReservedWord::Flow, Mark::Rate, FLOW, pieces)?;
     let slack = bounds(alloc, pieces)?;
-    let domain = condition(alloc, Word::Domain, DOMAIN, pieces)?;
-    let fallback = entries(alloc, Word::Fallback, Mark::Setting, FALLBACK, pieces)?;
+    let domain = condition(alloc, ReservedWord::Domain, DOMAIN, pieces)?;
+    let fallback = entries(
+        alloc,
+        ReservedWord::Fallback,
+        Mark::Setting,
+        FALLBACK,
+        pieces,
+    )?;
     let certs = certificates(alloc, behind(pieces))?;
     Ok(Package {
         names,

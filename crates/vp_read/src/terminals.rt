@@ -8,7 +8,7 @@ use crate::fault::ReadErr;
 use crate::spelling::{is_whole, mark_of};
 use std::alloc::Global;
 use vp_grammar::{Span, Terminal};
-use vp_lex::{Token, TokenKind, Word};
+use vp_lex::{ReservedWord, Token, TokenKind};
 use vp_terms::{Ratio, Var};
 
 // Where a token stands.
@@ -35,8 +35,8 @@ fn word_terminal(text: &[u8], token: Token) -> Terminal
     requires kind { token.kind ≡ kind.Word }
     ensures { IsTerminal text.now token result }
 {
-    match Word::of(token_text(text, token)) {
-        Some(Word::Tau) => Terminal::Variable(span_of(token), Some(Var::Tau)),
+    match ReservedWord::of(token_text(text, token)) {
+        Some(ReservedWord::Tau) => Terminal::Variable(span_of(token), Some(Var::Tau)),
         Some(word) => Terminal::Word(word),
         // A token of this kind is a reserved word.
         None => unreachable!(),

@@ -189,13 +189,31 @@ fn an_ended_session_writes_nothing(rt: HostRuntime) -> Result<(), Fail> {
     Ok(())
 }
 
-/// Each stream in one piece, in two at every place, and byte by byte.
+/// A line of `len` bytes and its LF: `front`, and then one byte as often as needed.
+fn padded_line(alloc: Global, front: &[u8], byte: u8, len: usize) -> Result<Vec<u8>, AllocError> {
+    let mut line = front.to_vec(alloc)?;
+    for _ in front.len()..len {
+        line.push(byte)?;
+    }
+    line.push(b'\n')?;
+    Ok(line)
+}
+
+/// Each stream in one piece, in two at every place, and byte by byte. A long line is the same byte all
+/// through its middle, and is cut near its two borders.
 #[test]
 fn cuts_change_nothing(rt: HostRuntime) -> Result<(), Fail> {
     let alloc = rt.alloc();
     let echo = bytes_of(alloc, ECHO)?;
     let guard = bytes_of(alloc, GUARD)?;
-    let rows: [(&[u8], &[u8], End, &[u8]); 6] = [
+    let longest_record = padded_line(alloc, b"i 0 0 0", b' ', 4096)?;
+    let long_record = padded_line(alloc, b"i 0 0 0", b' ', 4097)?;
+    let longest_comment = padded_line(alloc, b"# ", b'x', 4096)?;
+    let long_comment = padded_line(alloc, b"# ", b'x', 4097)?;
+    let long_blank = padded_line(alloc, b"", b' ', 4097)?;
+    let bad_first = End::Ended(Cause::BadLine { line: 1 });
+    let bad_third = End::Ended(Cause::BadLine { line: 3 });
+    let rows: [(&[u8], &[u8], End, &[u8]); 27] = [
         (&echo, EXAMPLE, End::Done { rounds: 1 }, PRINTED),
         (
             &echo,
@@ -206,7 +224,7 @@ fn cuts_change_nothing(rt: HostRuntime) -> Result<(), Fail> {
         (
             &echo,
             b"i 0 0 0\nc 7\nc 8\ns 1 1 0 0\n",
-            End::Ended(Cause::BadLine { line: 3 }),
+            bad_third,
             b"ok\nact chosen 7\nbad line 3\n",
         ),
         (
@@ -222,9 +240,73 @@ fn cuts_change_nothing(rt: HostRuntime) -> Result<(), Fail> {
             VIOLATION,
         ),
         (&guard, b"i -1 5 0", End::Violated, VIOLATION),
+        (
+            &guard,
+            b"i 0 5 0\nc 3\ns 1 1 0 0\n",
+            End::Done { rounds: 1 },
+            b"ok\nact chosen 3\nok\nend 1\n",
+        ),
+        (
+            &guard,
+            b"i -1 5 0\nnot a record",
+            End::Ended(Cause::Violated),
+            VIOLATION,
+        ),
+        (&echo, b"", End::Done { rounds: 0 }, b"end 0\n"),
+        (&echo, b"i 1 0 0\n", bad_first, b"bad line 1\n"),
+        (&echo, b"i 0 0 0", End::Done { rounds: 0 }, b"ok\nend 0\n"),
+        (
+            &echo,
+            b"i\t0  0 \t0\r\n\n# x\r\n \t\r\n\t c\t7 \n#\n   # c 8\ns 1\t1 0 0\r",
+            End::Done { rounds: 1 },
+            PRINTED,
+        ),
+        (&echo, b"# x\n\nc 5\n", bad_third, b"bad line 3\n"),
+        (
+            &echo,
+            b"i 0 0 0\n\r\n \nc 7\n# c\nc 8\n",
+            End::Ended(Cause::BadLine { line: 6 }),
+            b"ok\nact chosen 7\nbad line 6\n",
+        ),
+        (&echo, b"i 0 0 0\r\r\n", bad_first, b"bad line 1\n"),
+        (&echo, b"i 0 0 0 0\n", bad_first, b"bad line 1\n"),
+        (&echo, b"i inf inf 0\n", bad_first, b"bad line 1\n"),
+        (
+            &echo,
+            b"i -inf inf 0\nc -9223372036854775806\n",
+            End::Done { rounds: 0 },
+            b"ok\nact chosen -9223372036854775806\nend 0\n",
+        ),
+        (&echo, b"i 0 0 inf\n", bad_first, b"bad line 1\n"),
+        (
+            &echo,
+            b"i 0 0 9223372036854775807\n",
+            bad_first,
+            b"bad line 1\n",
+        ),
+        (&echo, b"i 00 -0 +0\n", bad_first, b"bad line 1\n"),
+        (
+            &echo,
+            &longest_record,
+            End::Done { rounds: 0 },
+            b"ok\nend 0\n",
+        ),
+        (&echo, &long_record, bad_first, b"bad line 1\n"),
+        (&echo, &longest_comment, End::Done { rounds: 0 }, b"end 0\n"),
+        (&echo, &long_comment, bad_first, b"bad line 1\n"),
+        (&echo, &long_blank, bad_first, b"bad line 1\n"),
+        (
+            &echo,
+            b"i 0 0 0\nc 7\nc 8\n",
+            bad_third,
+            b"ok\nact chosen 7\nbad line 3\n",
+        ),
     ];
     for (image, input, end, text) in rows {
         for place in 0..input.len() {
+            if place > 70 && place + 8 < input.len() {
+                continue;
+            }
             let (front, back) = input.split_at(place);
             let (answered, printed) = answer_to(alloc, image, &[front, back])?;
             assert_eq!(rt; answered, Some(end), "cut at {place}");

@@ -97,7 +97,7 @@ allowed_is_there k p (NextState i) h = (both _ _ h).1
 allowed_is_there k p (NextControl i) h = (both _ _ h).1
 allowed_is_there k p Tau h = refl
 
-weaker : (t s : Var → Bool) (e : Expr) → ((v : Var) → IsTrue (t v) → IsTrue (s v)) → IsTrue (all_variables t e) → IsTrue (all_variables s e)
+pub weaker : (t s : Var → Bool) (e : Expr) → ((v : Var) → IsTrue (t v) → IsTrue (s v)) → IsTrue (all_variables t e) → IsTrue (all_variables s e)
 weaker t s (Num r) f h = refl
 weaker t s (Variable v) f h = f v h
 weaker t s (Add' l a r b) f h = let g = both _ _ h in both_true _ _ (weaker t s a f g.0) (weaker t s b f g.1)
@@ -105,7 +105,7 @@ weaker t s (Sub' l a r b) f h = let g = both _ _ h in both_true _ _ (weaker t s 
 weaker t s (Mul' l a r b) f h = let g = both _ _ h in both_true _ _ (weaker t s a f g.0) (weaker t s b f g.1)
 weaker t s (Pow' l a n) f h = weaker t s a f h
 
-weaker_of : (t s : Var → Bool) (e : Formula) → ((v : Var) → IsTrue (t v) → IsTrue (s v)) → IsTrue (all_variables_of t e) → IsTrue (all_variables_of s e)
+pub weaker_of : (t s : Var → Bool) (e : Formula) → ((v : Var) → IsTrue (t v) → IsTrue (s v)) → IsTrue (all_variables_of t e) → IsTrue (all_variables_of s e)
 weaker_of t s True f h = refl
 weaker_of t s (Compare c a b) f h = let g = both _ _ h in both_true _ _ (weaker t s a f g.0) (weaker t s b f g.1)
 weaker_of t s (And' l a r b) f h = let g = both _ _ h in both_true _ _ (weaker_of t s a f g.0) (weaker_of t s b f g.1)

@@ -1,5 +1,5 @@
 -- Which control values a program leads to.
-use Rattle.std.specs.Prelude.{ℕ, ◌<◌, ◌≢◌, ◌⊎◌, IsTrue, pos}
+use Rattle.std.specs.Prelude.{ℕ, ◌<◌, ◌≤◌, ◌≢◌, ◌⊎◌, IsTrue, pos}
 use Rattle.vp_terms.specs.Rational.{Rational, whole, Equals}
 use Rattle.vp_terms.specs.Meaning.{Assignment, value, holds}
 use Rattle.vp_terms.specs.declared.expr.Var.TheVariants.{Param, State, Control, NextState, NextControl, Tau}
@@ -19,6 +19,15 @@ assigned p x u (NextState i) = whole (pos 0)
 assigned p x u (NextControl i) = whole (pos 0)
 assigned p x u Tau = whole (pos 0)
 
+-- and all values over a round: the next controls v, the time t and the next states y too
+abbrev pub changing : Values → Values → Values → Values → Rational → Values → Assignment
+changing p x u v t y (Param i) = p i
+changing p x u v t y (State i) = x i
+changing p x u v t y (Control i) = u i
+changing p x u v t y (NextState i) = y i
+changing p x u v t y (NextControl i) = v i
+changing p x u v t y Tau = t
+
 -- the same values
 pub record Same (u v : Values) : Type 0 where
   pub each : (k : ℕ) → Equals (u k) (v k)
@@ -30,6 +39,10 @@ pub record SameBut (c : ℕ) (u v : Values) : Type 0 where
 -- the same values for the numbers below n
 abbrev pub AgreeBelow : ℕ → Values → Values → Type 0
 AgreeBelow n u v = (k : ℕ) → k < n → Equals (u k) (v k)
+
+-- and for those from n on
+abbrev pub AgreeFrom : ℕ → Values → Values → Type 0
+AgreeFrom n u v = (k : ℕ) → n ≤ k → Equals (u k) (v k)
 
 -- v is u with the value q for c
 pub record Sets (c : ℕ) (q : Rational) (u v : Values) : Type 0 where

@@ -132,6 +132,14 @@ pub fn meaning_depends_on_variables()
         Ctrl prog p x u v → Ctrl prog p' x' u v }
 {}
 
+/// What has only variables that pass a test has only variables that pass a weaker one.
+pub fn variables_pass_tests()
+    ensures expressions { (t u : Var → Bool) (e : Expr) → ((v : Var) → IsTrue (t v) → IsTrue (u v)) →
+        IsTrue (all_variables t e) → IsTrue (all_variables u e) }
+    ensures formulas { (t u : Var → Bool) (f : Formula) → ((v : Var) → IsTrue (t v) → IsTrue (u v)) →
+        IsTrue (all_variables_of t f) → IsTrue (all_variables_of u f) }
+{}
+
 /// A well formed expression or formula has only variables that may stand there, and these are the
 /// model's.
 pub fn well_formed_parts_have_allowed_variables()

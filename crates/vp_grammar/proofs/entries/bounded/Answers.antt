@@ -1,5 +1,5 @@
 use Rattle.std.proofs.Common.{◌∷◌}
-use Rattle.vp_lex.specs.declared.word.Word.TheVariants as word
+use Rattle.vp_lex.specs.declared.word.ReservedWord.TheVariants as word
 use Rattle.vp_grammar.specs.declared.terminal.Terminal.TheVariants as terminal
 use Rattle.vp_grammar.proofs.entries.bounded.Goals as goal
 

@@ -1,6 +1,6 @@
 use Rattle.std.proofs.Common.{◌≡◌, ◌≢◌, length, [], map, rules}
 use Rattle.std.proofs.lemmas.Result.{err_from_is_err_and}
-use Rattle.vp_lex.specs.declared.word.Word.TheVariants as word
+use Rattle.vp_lex.specs.declared.word.ReservedWord.TheVariants as word
 use Rattle.vp_grammar.specs.Entries.{SpellsBounds}
 use Rattle.vp_terms.specs.Packages.{slack_tree}
 use Rattle.vp_grammar.specs.EntryReads.{Listed, IsBound}

@@ -1,7 +1,7 @@
 use Rattle.std.proofs.Common.{◌≡◌, [], ◌∷◌, true, sym}
 use Rattle.std.proofs.lemmas.Result.{err_from_is_err_and}
 use Rattle.vp_terms.specs.Tree.{expr_tree}
-use Rattle.vp_lex.specs.declared.word.Word.TheVariants as word
+use Rattle.vp_lex.specs.declared.word.ReservedWord.TheVariants as word
 use Rattle.vp_grammar.specs.Entries.{SpellsTimes}
 use Rattle.vp_grammar.specs.EntryReads.{IsPair}
 use Rattle.vp_grammar.proofs.Lists.{Piece, piece_fails, piece_goes, fails_alike}

@@ -1,5 +1,5 @@
 use Rattle.std.proofs.Common.{[]}
-use Rattle.vp_lex.specs.declared.word.Word.TheVariants as word
+use Rattle.vp_lex.specs.declared.word.ReservedWord.TheVariants as word
 use Rattle.vp_grammar.specs.EntryReads.{Listed, IsBound}
 use Rattle.vp_grammar.proofs.Lists.{one_piece}
 use Rattle.vp_grammar.proofs.EntrySteps.{comma, bound_list_once, bounds_piece}

@@ -3,7 +3,7 @@ use Rattle.std.proofs.lemmas.Result.{err_from_is_err_and}
 use Rattle.vp_terms.specs.declared.expr.Expr.{Expr}
 use Rattle.vp_terms.specs.declared.package.Slack.{Slack}
 use Rattle.vp_terms.specs.Tree.{expr_tree, formula_tree, prog_tree}
-use Rattle.vp_lex.specs.declared.word.Word.TheVariants as word
+use Rattle.vp_lex.specs.declared.word.ReservedWord.TheVariants as word
 use Rattle.vp_grammar.specs.declared.entries.Mark.TheVariants as mark
 use Rattle.vp_grammar.specs.FormulaReads.{SpellsFormulaPiece}
 use Rattle.vp_grammar.specs.Controllers.{SpellsController}

@@ -1,6 +1,6 @@
 use Rattle.std.proofs.Common.{List, ℕ, ◌≡◌, true, false, inl, inr, map, refl, sym, subst}
 use Rattle.std.proofs.lemmas.Result.{err_from_is_err_and}
-use Rattle.vp_lex.specs.declared.word.Word.TheVariants as word
+use Rattle.vp_lex.specs.declared.word.ReservedWord.TheVariants as word
 use Rattle.vp_read.specs.Pieces.{items, piece}
 use Rattle.vp_read.specs.Sections.{IsHeading, IsListed, IsUnformedHead, spelled}
 use Rattle.vp_read.proofs.SectionSteps.{tells}

@@ -1,7 +1,0 @@
-use Rattle.std.proofs.Common.{◌≡◌, ℕ, ◌<◌, Some, slice_get}
-use Rattle.vp_lex.specs.Reserved.{word_text}
-use Rattle.vp_lex.specs.declared.word.Word.{Word}
-use Rattle.vp_lex.proofs.word.Word.of.Given as goal
-
-abbrev pub invariant-loop-word : goal.invariant-loop-word
-invariant-loop-word l = (k : ℕ) (w : Word) → k < l.word-index → slice_get l.word-items k ≡ Some w → l.bytes ≡ word_text w → ⊥
