@@ -16,5 +16,5 @@ pub returns : goal.returns
 returns c = record {
   sums = λ xs ys p q small few. (merged xs ys, IsTotal-merged xs ys p q small few);
   products = λ xs ys p q small few low. (with_rows [] xs ys, IsProduct-rows xs ys (with_rows [] xs ys) refl p q small few low);
-  multiples = λ k xs p some small. (scaled (pos k) xs, (IsPoly-scaled (pos k) xs (scaled (pos k) xs) refl (not_zero k some) small p, coef-scaled (pos k) xs));
+  multiples = λ k xs p some small. (scaled (pos k) xs, IsPoly-scaled (pos k) xs (scaled (pos k) xs) refl (not_zero k some) small p, coef-scaled (pos k) xs);
 }
