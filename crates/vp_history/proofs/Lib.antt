@@ -1,0 +1,10 @@
+pub mod Allowing
+pub mod Boxed
+pub mod Inputs
+pub mod Known
+pub mod Points
+pub mod Right
+pub mod Sampled
+pub mod Steps
+pub mod Telling
+pub mod Working
