@@ -304,7 +304,7 @@ fn cuts_change_nothing(rt: HostRuntime) -> Result<(), Fail> {
     ];
     for (image, input, end, text) in rows {
         for place in 0..input.len() {
-            if place > 70 && input.len() - place > 8 {
+            if place > 70 && place.saturating_add(8) < input.len() {
                 continue;
             }
             let (front, back) = input.split_at(place);
