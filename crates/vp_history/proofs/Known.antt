@@ -43,6 +43,7 @@ pub record KeepsValid : Type 0 where
   pub before : (c : Counts) (kind : Kind) (words : List ℤ) (boxes : List Ends) → IsRecordOf c kind words → AreValid boxes → AreValid (tested c kind words boxes)
   pub behind : (s : Sandbox) (st : State) (words : List ℤ) → Fits s → length st.boxes ≡ 32 → AreValid st.boxes → IsDueRecord (sandbox_of s) st words → AreValid (answered s st words).next.boxes
   pub size : (s : Sandbox) (st : State) (words : List ℤ) → length (answered s st words).next.boxes ≡ length st.boxes
+  pub size_tested : (c : Counts) (kind : Kind) (words : List ℤ) (boxes : List Ends) → length (tested c kind words boxes) ≡ length boxes
   pub always : (s : Sandbox) (records : List (List ℤ)) → Fits s → AreDue (sandbox_of s) start records → (length (state_after (sandbox_of s) start records).boxes ≡ 32) × AreValid (state_after (sandbox_of s) start records).boxes
 
 -- the parts of a sandbox that fits may be told the truth of over 32 boxes

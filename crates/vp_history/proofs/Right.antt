@@ -20,7 +20,6 @@ use Rattle.vp_sandbox.specs.Answer.{answered, choice_verdict, fallback_verdict, 
 use Rattle.vp_sandbox.specs.Boxes.{point_words, tested}
 use Rattle.vp_sandbox.specs.Fits.{Fits}
 use Rattle.vp_sandbox.specs.Sandbox.{State}
-use Rattle.vp_sandbox.proofs.Answered.{tested_length}
 use Rattle.vp_history.specs.Reports.{AreRight, IsNamed, IsRight, told}
 use Rattle.vp_history.proofs.Known.{KeepsValid, MayBeTested, Truthful}
 use Rattle.vp_history.proofs.Telling.{told_no}
@@ -80,7 +79,7 @@ module _ (keeps : KeepsValid) (may : MayBeTested) (known : Truthful) (s : Sandbo
   right_from (words ∷ more) due.Init boxes size valid turns =
       let st : State = record { boxes = boxes; due = due.Init } in
       let next = (answered s st words).next in
-      let fit = subst (λ (n : ℕ). PartsFit n (map tree s.init)) (sym (tested_length s.counts kind.Init words boxes ∙ size)) (may.init s fits) in (
+      let fit = subst (λ (n : ℕ). PartsFit n (map tree s.init)) (sym (keeps.size_tested s.counts kind.Init words boxes ∙ size)) (may.init s fits) in (
         init_right (tested s.counts kind.Init words boxes) _ (keeps.before s.counts kind.Init words boxes turns.0 valid) fit refl,
         right_from more next.due next.boxes (keeps.size s st words ∙ size) (keeps.behind s st words fits size valid turns.0) turns.1,
       )
@@ -93,7 +92,7 @@ module _ (keeps : KeepsValid) (may : MayBeTested) (known : Truthful) (s : Sandbo
   right_from (words ∷ more) due.Sense boxes size valid turns =
       let st : State = record { boxes = boxes; due = due.Sense } in
       let next = (answered s st words).next in
-      let fit = subst (λ (n : ℕ). PartsFit n (map tree s.plant)) (sym (tested_length s.counts kind.Sense words boxes ∙ size)) (may.plant s fits) in (
+      let fit = subst (λ (n : ℕ). PartsFit n (map tree s.plant)) (sym (keeps.size_tested s.counts kind.Sense words boxes ∙ size)) (may.plant s fits) in (
         sense_right (tested s.counts kind.Sense words boxes) (drop 2 words) _ (keeps.before s.counts kind.Sense words boxes turns.0 valid) fit refl,
         right_from more next.due next.boxes (keeps.size s st words ∙ size) (keeps.behind s st words fits size valid turns.0) turns.1,
       )

@@ -37,7 +37,6 @@ use Rattle.vp_sandbox.specs.declared.sandbox.Sandbox.{Sandbox}
 use Rattle.vp_sandbox.specs.Answer.{Answered, acted, answered, choice_verdict, fallback_verdict, init_verdict, is_unknown, sense_verdict}
 use Rattle.vp_sandbox.specs.Boxes.{box_after, box_at, point_words, tested}
 use Rattle.vp_sandbox.specs.Fits.{Fits}
-use Rattle.vp_sandbox.proofs.Answered.{tested_length}
 use Rattle.vp_history.specs.Allowed.{Allows, Denies}
 use Rattle.vp_history.specs.History.{History, IsInBoxes, Now, StandsIn, after, first_controls, values_of}
 use Rattle.vp_history.specs.Means.{AreValues, Means}
@@ -145,7 +144,7 @@ module _ (s : Sandbox) (m : Model) (h : History) where
       init_boxes = tested s.counts kind.Init words old
 
       init_fits : PartsFit (length init_boxes) (map tree s.init)
-      init_fits = subst (λ (n : ℕ). PartsFit n (map tree s.init)) (sym (tested_length s.counts kind.Init words old ∙ size)) (known.fits.init s fits)
+      init_fits = subst (λ (n : ℕ). PartsFit n (map tree s.init)) (sym (known.keeps.size_tested s.counts kind.Init words old ∙ size)) (known.fits.init s fits)
 
       init_valid : AreValid init_boxes
       init_valid = known.keeps.before s.counts kind.Init words old rec valid
@@ -246,7 +245,7 @@ module _ (s : Sandbox) (m : Model) (h : History) where
           let x = h.states now.sensing in
           let u = now.controls in
           let z = shown known s.counts choice_boxes (changing p x u (values_of words) stood.t stood.y) choice_valid chosen_holds in
-          let form : FormFits (length choice_boxes) (tree s.ctrl) = subst (λ (n : ℕ). FormFits n (tree s.ctrl)) (sym (tested_length s.counts kind.Choice words old ∙ size)) (known.fits.ctrl s fits) in
+          let form : FormFits (length choice_boxes) (tree s.ctrl) = subst (λ (n : ℕ). FormFits n (tree s.ctrl)) (sym (known.keeps.size_tested s.counts kind.Choice words old ∙ size)) (known.fits.ctrl s fits) in
           let holds : tree_holds (tree s.ctrl) z.at ≡ true = told_yes (truth choice_boxes (tree s.ctrl)) (tree_holds (tree s.ctrl) z.at) e (known.truthful.one choice_boxes (tree s.ctrl) z.at choice_valid z.held form) in
           let leads = (means.ctrl z.at p x u (values_of words) stood.y stood.t z.is_at (agree_past s.counts.controls u words rec.count stood.others)).0 holds in
           acted_step words false rec.count behind (λ ind inv. leads)
@@ -261,7 +260,7 @@ module _ (s : Sandbox) (m : Model) (h : History) where
       sense_boxes = tested s.counts kind.Sense words old
 
       sense_fits : PartsFit (length sense_boxes) (map tree s.plant)
-      sense_fits = subst (λ (n : ℕ). PartsFit n (map tree s.plant)) (sym (tested_length s.counts kind.Sense words old ∙ size)) (known.fits.plant s fits)
+      sense_fits = subst (λ (n : ℕ). PartsFit n (map tree s.plant)) (sym (known.keeps.size_tested s.counts kind.Sense words old ∙ size)) (known.fits.plant s fits)
 
       sense_valid : AreValid sense_boxes
       sense_valid = known.keeps.before s.counts kind.Sense words old rec valid

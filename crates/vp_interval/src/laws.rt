@@ -1,9 +1,9 @@
 //! Laws of intervals: the contracts of these functions say them, and their bodies do nothing.
-ghost use Rattle.std.specs.Prelude.{◌≡◌, ◌↔◌, ◌<◌, ◌≤◌, ◌^◌, ℕ, ℤ, List, None, Some, length, map, All, IsTrue};
+ghost use Rattle.std.specs.Prelude.{◌≡◌, ◌↔◌, ◌<◌, ◌≤◌, ◌^◌, ℕ, ℤ, Bool, List, None, Some, length, map, slice_get, All, IsTrue};
 ghost use Rattle.vp_words.specs.Number.{IsFinite};
 ghost use Rattle.vp_terms.specs.Rational.{Rational, Equals, whole, sum as rational_sum, product as rational_product, power as rational_power};
 ghost use Rattle.vp_poly.specs.declared.mono.Term.{Term};
-ghost use Rattle.vp_poly.specs.Places.{AreBelow};
+ghost use Rattle.vp_poly.specs.Places.{AreBelow, HaveOnly};
 ghost use Rattle.vp_poly.specs.Poly.{IsPoly, norm};
 ghost use Rattle.vp_poly.specs.Value.{Point, value_at};
 ghost use Rattle.vp_logic.specs.Sized.{IsSized, EachIsSized};
@@ -82,6 +82,13 @@ pub fn polynomials_are_enclosed()
     ensures values { (boxes : List Ends) (ts : List Term) (x : Point) → AreValid boxes →
         RepresentEach boxes x → AreBelow (length boxes) ts → AreSmall ts →
         Represents (interval_of boxes ts) (value_at ts x) }
+{}
+
+/// The interval of a polynomial goes by the boxes of the places that it has.
+pub fn intervals_depend_on_places()
+    ensures { (allowed : ℕ → Bool) (ts : List Term) (boxes others : List Ends) → HaveOnly allowed ts →
+        ((k : ℕ) → IsTrue (allowed k) → slice_get boxes k ≡ slice_get others k) →
+        interval_of boxes ts ≡ interval_of others ts }
 {}
 
 /// A normal form that is Yes holds where the values of all places stand in their boxes, and one that

@@ -1,5 +1,6 @@
 pub mod Answered
 pub mod Boxed
+pub mod Falling
 pub mod Fitted
 pub mod Fitting
 pub mod Passing

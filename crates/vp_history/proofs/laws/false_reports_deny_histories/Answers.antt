@@ -18,6 +18,7 @@ returns c =
       before = c.valid_records_keep_boxes_valid.ensures.tested;
       behind = c.valid_records_keep_boxes_valid.ensures.after;
       size = c.valid_records_keep_boxes_valid.ensures.size;
+      size_tested = c.valid_records_keep_boxes_valid.ensures.size_tested;
       always = c.valid_records_keep_boxes_valid.ensures.always;
     } in
     let may : MayBeTested = record {
