@@ -1,0 +1,9 @@
+//! Code whose jumps lead to labels, until each label has its place.
+#![tactic(auto)]
+
+mod builder;
+mod target;
+#[cfg(test)]
+mod tests;
+
+pub use builder::{BuildErr, Builder};

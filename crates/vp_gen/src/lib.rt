@@ -1,0 +1,14 @@
+//! From a sandbox to code of the word machine that agrees with it. The layout of the code stands in
+//! `docs/generation.md`.
+#![tactic(auto)]
+
+mod build;
+mod check;
+mod form;
+mod generate;
+mod poly;
+mod power;
+#[cfg(test)]
+mod tests;
+
+pub use generate::{GenErr, compile};
