@@ -6,3 +6,5 @@ pub mod Adding
 pub mod Signs
 pub mod Refuted
 pub mod Existence
+pub mod OneRefusal
+pub mod SameTerms

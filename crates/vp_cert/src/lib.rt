@@ -7,8 +7,6 @@ mod labels;
 pub mod laws;
 mod refuting;
 mod size;
-#[cfg(test)]
-mod tests;
 
 pub use error::{CertErr, CertWhy};
 pub use refuting::refutes;

@@ -1,3 +1,4 @@
+pub mod Alike
 pub mod Bounding
 pub mod Central
 pub mod Coming
@@ -8,6 +9,7 @@ pub mod Known
 pub mod Listing
 pub mod Meaning
 pub mod Running
+pub mod SamePaths
 pub mod Standing
 pub mod Truths
 pub mod Walking

@@ -5,8 +5,6 @@
 mod hidden;
 pub mod laws;
 mod path;
-#[cfg(test)]
-mod tests;
 mod walk;
 mod ways;
 

@@ -17,13 +17,11 @@ fn retarget(instr: Instr, t: u32) -> Instr
     }
 }
 
+/// The place of a label, if the label was made and has one.
 fn place_of_label(places: &[Option<u32>], label: u32) -> Option<u32>
     ensures { result ≡ place_of places.now label }
 {
-    match places.get(label as usize) {
-        Some(place) => *place,
-        None => None,
-    }
+    places.get(label as usize).copied().flatten()
 }
 
 /// The jump to the place of its label, or the label if it has none.

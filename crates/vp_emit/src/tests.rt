@@ -15,9 +15,10 @@ const HALT: Instr = Instr::Halt { mon: Mon::Fallback };
 /// Pushes jumps to these labels.
 fn push_jumps(b: &mut Builder, labels: &[u32]) -> Result<(), Fail> {
     for label in labels {
-        if b.count() < 100 {
-            b.push(Instr::Jmp { t: *label })?;
+        if b.count() == u32::MAX {
+            return Err(Fail::new("no room"));
         }
+        b.push(Instr::Jmp { t: *label })?;
     }
     Ok(())
 }

@@ -35,6 +35,7 @@ pub mod Deriving
 pub mod Heightening
 pub mod HeightLaws
 pub mod Outcomes
+pub mod SameFlows
 pub mod Valuing
 pub mod Placed
 pub mod Further

@@ -1,5 +1,6 @@
 //! Laws of flows: the contracts of these functions say them, and their bodies do nothing.
 ghost use Rattle.std.specs.Prelude.{◌≡◌, ◌≢◌, ◌<◌, ℕ, List, length, pos};
+ghost use Rattle.vp_terms.specs.Packages.{package_tree};
 ghost use Rattle.vp_terms.specs.Rational.{Equals, Rational, whole};
 ghost use Rattle.vp_terms.specs.WellFormed.{IsWellFormed};
 ghost use Rattle.vp_terms.specs.declared.expr.Places.{Places};
@@ -17,8 +18,9 @@ ghost use Rattle.vp_flow.specs.declared.error.FlowErr.{FlowErr};
 ghost use Rattle.vp_flow.specs.declared.error.FlowErr.TheVariants.{Memory};
 
 use vp_poly::laws::{
-    coefficients_combine, coefficients_tell_values, multiples_combine,
-    polynomials_add_and_multiply, polynomials_are_unique, values_respect_equality,
+    coefficients_combine, coefficients_tell_values, equal_trees_have_one_polynomial,
+    multiples_combine, polynomials_add_and_multiply, polynomials_are_unique,
+    values_respect_equality,
 };
 
 /// A package has one list of canonical polynomials of its right sides and each state one height. Where
@@ -70,3 +72,15 @@ pub fn further_summands_are_zero()
         i < length pkg.names.states → h i < k → (m : Powers) →
         Equals (lie (model pkg) (rates_of pkg) i k m) (whole (pos 0)) }
 {}
+
+/// Packages that differ in their boxes alone have the same right sides, and the same refusals of their
+/// flow.
+pub fn equal_trees_have_the_same_flows()
+    ensures sides { (p q : Package) → package_tree p ≡ package_tree q → (qs : List Scaled) →
+        AreRightSides p qs → AreRightSides q qs }
+    ensures rates { (p q : Package) → package_tree p ≡ package_tree q → rates_of p ≡ rates_of q }
+    ensures refusals { (p q : Package) → package_tree p ≡ package_tree q → (e : FlowErr) →
+        Refuses p e → Refuses q e }
+{
+    equal_trees_have_one_polynomial();
+}

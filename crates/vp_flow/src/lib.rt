@@ -15,8 +15,6 @@ mod schedule;
 mod series;
 mod sides;
 mod solution;
-#[cfg(test)]
-mod tests;
 mod uses;
 mod weighing;
 mod weights;

@@ -6,14 +6,11 @@ use Rattle.std.proofs.lemmas.Option.{slice_get_within, get_or_from_slice_get}
 use Rattle.vp_isa.specs.declared.instr.Instr.{Instr}
 use Rattle.vp_poly.specs.declared.mono.Term.{Term}
 use Rattle.vp_layout.specs.declared.home.Home.{Home}
+use Rattle.vp_layout.proofs.Drafts.{nil_right}
 use Rattle.vp_gen.specs.PolyCode.{term_code, added_code, sums_code, poly_code}
 
 sums_more : (d : ℕ) (ts : List Term) (t : Term) (hs : List Home) → sums_code d (ts ++ t ∷ []) hs ≡ sums_code d ts hs ++ added_code d t hs
 sums_more d [] t hs = nil_right (added_code d t hs)
-  where
-    nil_right : (xs : List Instr) → xs ++ [] ≡ xs
-    nil_right [] = refl
-    nil_right (x ∷ xs) = ap (λ ys. x ∷ ys) (nil_right xs)
 sums_more d (u ∷ us) t hs = ap (λ is. added_code d u hs ++ is) (sums_more d us t hs) ∙ sym (append_assoc (added_code d u hs) (sums_code d us hs) (added_code d t hs))
 
 poly_more : (d : ℕ) (ts : List Term) (t : Term) (hs : List Home) → 1 ≤ length ts → poly_code d (ts ++ t ∷ []) hs ≡ poly_code d ts hs ++ added_code d t hs

@@ -26,6 +26,7 @@ use Rattle.vp_layout.specs.Blocks.{act_code, copies, take_code}
 use Rattle.vp_layout.specs.Cells.{Constants, HomesAreBelow, Keeps, StandAt}
 use Rattle.vp_layout.specs.Drafts.{mon_of}
 use Rattle.vp_layout.specs.Homes.{box_at, boxes_in, homes_of, state_cell, next_control_cell, next_state_cell}
+use Rattle.vp_layout.proofs.Drafts.{nil_right}
 use Rattle.vp_layout.proofs.Machines.{Runs}
 use Rattle.vp_layout.specs.Ties.{Acted, Gains, Keeping, Leads, Replies, Stands, Takes, standing}
 use Rattle.vp_layout.specs.Truths.{number, need, AllNeed}
@@ -58,10 +59,6 @@ pub record Compiles (s : Sandbox) : Type 0 where
 
 has_all : (law : Runs) (code : Code) → HasAt code 0 code.instrs
 has_all law code = law.piece code [] code.instrs [] (sym (nil_right code.instrs))
-  where
-    nil_right : (is : List Instr) → is ++ [] ≡ is
-    nil_right [] = refl
-    nil_right (i ∷ is) = ap (λ js. i ∷ js) (nil_right is)
 
 has_init : (law : Runs) (s : Sandbox) → HasAt (code_of s) 0 (init_code s)
 has_init law s = law.front (code_of s) 0 (init_code s) _ (has_all law (code_of s))

@@ -6,7 +6,7 @@ ghost use Rattle.vp_sandbox.specs.Sizes.{form_size, poly_size};
 ghost use Rattle.vp_layout.specs.Truths.{need, IsSmall, AllNeed, AllSmall, SmallPolys};
 ghost use Rattle.vp_layout.specs.Drafts.{mon_of, Appends, HasRoom};
 ghost use Rattle.vp_gen.specs.CheckCode.{check_code, checks_code};
-ghost use Rattle.vp_gen.specs.SandboxCode.{same_code, word_code, words_code};
+ghost use Rattle.vp_gen.specs.SandboxCode.{fallback_cell, same_code, word_code, words_code, work_cell};
 
 use crate::form::emit_form;
 use crate::poly::emit_poly;
@@ -35,7 +35,7 @@ fn emit_check(
     requires room { HasRoom b.old (form_size (tree form.now) + 8) }
     requires need { need (tree form.now) ≤ 16 }
     requires small { IsSmall (tree form.now) }
-    ensures { OnOk result (Appends b.old b.new (λ p. check_code p 84 (mon_of monitor k) (tree form.now) homes.now)) }
+    ensures { OnOk result (Appends b.old b.new (λ p. check_code p work_cell (mon_of monitor k) (tree form.now) homes.now)) }
 {
     let mut block = Vec::new(alloc);
     emit_form(&mut block, WORK, form, homes)?;
@@ -90,7 +90,7 @@ pub(crate) fn emit_checks(
     requires few { length forms.now < 2 ^ 31 }
     requires need { AllNeed 16 (map tree forms.now) }
     requires small { AllSmall (map tree forms.now) }
-    ensures { OnOk result (Appends b.old b.new (λ p. checks_code p 84 (mon_of monitor) 1 (map tree forms.now) homes.now)) }
+    ensures { OnOk result (Appends b.old b.new (λ p. checks_code p work_cell (mon_of monitor) 1 (map tree forms.now) homes.now)) }
 {
     for (i, form) in forms.iter().enumerate() {
         emit_check(alloc, b, form, i as u32 + 1, monitor, homes)?;
@@ -108,7 +108,7 @@ pub(crate) fn emit_words(
     requires room { HasRoom b.old (sum_by (λ p. poly_size p + 6) polys.now) }
     requires few { length polys.now ≤ 16 }
     requires small { SmallPolys polys.now }
-    ensures { OnOk result (Appends b.old b.new (λ p. words_code p 68 polys.now homes.now)) }
+    ensures { OnOk result (Appends b.old b.new (λ p. words_code p fallback_cell polys.now homes.now)) }
 {
     for (i, poly) in polys.iter().enumerate() {
         emit_word(alloc, b, FALLBACK + i as u16, poly, homes)?;

@@ -16,8 +16,6 @@ pub mod laws;
 mod leading;
 mod strays;
 mod terminal;
-#[cfg(test)]
-mod tests;
 
 pub use certificate::whole_certificate;
 pub use controller::whole_controller;

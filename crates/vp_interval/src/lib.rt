@@ -7,8 +7,6 @@ mod formula;
 mod interval;
 pub mod laws;
 mod polynomial;
-#[cfg(test)]
-mod tests;
 mod truth;
 
 pub use arithmetic::{add, mul, pow};

@@ -12,6 +12,7 @@ use Rattle.vp_layout.specs.Homes.{boxes_in, pair_homes, point_homes, homes_of, s
 use Rattle.vp_layout.specs.Cells.{HomesAreBelow, HomeIsBelow, StandAt, Within}
 use Rattle.vp_layout.proofs.Kept.{both, boxed}
 use Rattle.vp_layout.proofs.Cells.{pairs_same, points_same, repeated_same, joined_same, points_read, pairs_read, placed_homes, length-pairs, length-points, pairs_split}
+use Rattle.vp_layout.proofs.Drafts.{nil_right}
 
 pairs_below : (d at n : ℕ) → at + 2 * n ≤ d → HomesAreBelow d (pair_homes at n)
 pairs_below d at zero h = tt
@@ -132,10 +133,6 @@ act_boxes c a b ws v count stands w =
 
 pairs_only : (c : List ℤ) (at n : ℕ) (ws : List ℤ) → length ws ≡ 2 * n → StandAt c at ws → boxes_in c (pair_homes at n) ≡ boxes_of n ws
 pairs_only c at n ws e h = ap (boxes_in c) (sym (nil_right (pair_homes at n))) ∙ pairs_read c at n 0 ws (omega arith) h
-  where
-    nil_right : (hs : List Home) → hs ++ [] ≡ hs
-    nil_right [] = refl
-    nil_right (x ∷ hs) = ap (λ ys. x ∷ ys) (nil_right hs)
 
 -- a time: `tau` is new
 pub time_boxes : (c : Counts) (a b ws : List ℤ) → IsValid c → length ws ≡ 2 → StandAt b (tau_cell c) ws

@@ -10,7 +10,7 @@ use Rattle.vp_isa.specs.Machine.{cell}
 use Rattle.vp_isa.specs.Block.{after}
 use Rattle.vp_layout.specs.Homes.{box_at}
 use Rattle.vp_layout.specs.Blocks.{product_code, lower_code}
-use Rattle.vp_layout.specs.Cells.{Leaves}
+use Rattle.vp_layout.specs.Cells.{IsApart, Leaves, LeavesUsing}
 use Rattle.vp_layout.proofs.Writes.{wrote}
 use Rattle.vp_layout.proofs.Kept.{both, boxed}
 
@@ -57,13 +57,6 @@ corner_on pick f c c1 d t a b z ne hd ht ad at bd bt one =
 abbrev corners : (ℤ → ℤ → ℤ) → (ℤ → ℤ → ℤ) → Ends → Ends → ℤ
 corners pick f v w = pick (pick (pick (f v.lo w.lo) (f v.lo w.hi)) (f v.hi w.lo)) (f v.hi w.hi)
 
--- the cells of v are neither d nor t
-pub record Apart (d t : ℕ) (v : Home) : Type 0 where
-  pub lo_d : v.lo ≢ d
-  pub lo_t : v.lo ≢ t
-  pub hi_d : v.hi ≢ d
-  pub hi_t : v.hi ≢ t
-
 abbrev four_cells : (pick f : ℤ → ℤ → ℤ) (c : List ℤ) (d t : ℕ) (v w : Home) → List ℤ
 four_cells pick f c d t v w =
     let c0 = slice_set c d (f (cell c v.lo) (cell c w.lo)) in
@@ -71,7 +64,7 @@ four_cells pick f c d t v w =
     let c2 = corner_cells pick f c1 d t v.hi w.lo in
     corner_cells pick f c2 d t v.hi w.hi
 
-four : (pick f : ℤ → ℤ → ℤ) (c : List ℤ) (d t : ℕ) (v w : Home) → d ≢ t → d < length c → t < length c → Apart d t v → Apart d t w
+four : (pick f : ℤ → ℤ → ℤ) (c : List ℤ) (d t : ℕ) (v w : Home) → d ≢ t → d < length c → t < length c → IsApart d t v → IsApart d t w
     → Folds d t (corners pick f (box_at c v) (box_at c w)) c (four_cells pick f c d t v w)
 four pick f c d t v w ne hd ht av aw =
     let c0 = slice_set c d (f (cell c v.lo) (cell c w.lo)) in
@@ -90,16 +83,9 @@ min_four a b c d = omega (arith, ints, clamps)
 max_four : (a b c d : ℤ) → int_max (int_max (int_max a b) c) d ≡ int_max (int_max a b) (int_max c d)
 max_four a b c d = omega (arith, ints, clamps)
 
--- the product stands in the cells d and d + 1, and of the others at most cell t has changed
-pub record Multiplied (d t : ℕ) (z : Ends) (c c' : List ℤ) : Type 0 where
-  pub same_length : length c' ≡ length c
-  pub low : cell c' d ≡ z.lo
-  pub high : cell c' (d + 1) ≡ z.hi
-  pub others : (i : ℕ) → i ≢ d → i ≢ d + 1 → i ≢ t → cell c' i ≡ cell c i
-
 pub multiplied : (c : List ℤ) (d t : ℕ) (v w : Home) → t ≢ d → t ≢ d + 1 → d + 1 < length c → t < length c
-    → Apart d t v → Apart d t w → Apart (d + 1) t v → Apart (d + 1) t w
-    → Multiplied d t (product (box_at c v) (box_at c w)) c (after (product_code d t v w) c)
+    → IsApart d t v → IsApart d t w → IsApart (d + 1) t v → IsApart (d + 1) t w
+    → LeavesUsing d t (product (box_at c v) (box_at c w)) c (after (product_code d t v w) c)
 multiplied c d t v w td te he ht av aw bv bw =
     let dt : d ≢ t = λ e. td (sym e) in
     let et : d + 1 ≢ t = λ e. te (sym e) in
@@ -122,7 +108,7 @@ multiplied c d t v w td te he ht av aw bv bw =
       others = λ i ni ne nt. high.others i ne nt ∙ low.others i ni nt;
     }
 
-pub multiplied_leaves : (c c' : List ℤ) (d t : ℕ) (z : Ends) → d + 1 < t → Multiplied d t z c c' → Leaves d z c c'
+pub multiplied_leaves : (c c' : List ℤ) (d t : ℕ) (z : Ends) → d + 1 < t → LeavesUsing d t z c c' → Leaves d z c c'
 multiplied_leaves c c' d t z h m = record {
   low = m.low;
   high = m.high;

@@ -1,25 +1,35 @@
 //! Laws of compiled code: the contracts of these functions say them. They speak of any code that has
 //! its boxes at their homes and takes each record at its place, however it works out its formulas.
-ghost use Rattle.std.specs.Prelude.{◌≡◌, ◌+◌, ◌*◌, ◌≤◌, ◌++◌, ◌∷◌, ℕ, ℤ, Bool, List, [], length, map};
+ghost use Rattle.std.specs.Prelude.{◌≡◌, ◌≢◌, ◌+◌, ◌*◌, ◌<◌, ◌≤◌, ◌++◌, ◌∷◌, ℕ, ℤ, Bool, List, [], length, map};
 ghost use Rattle.vp_words.specs.declared.record.Kind.{Kind};
 ghost use Rattle.vp_words.specs.Exchanges.{Agree};
 ghost use Rattle.vp_words.specs.Record.{IsValid as AreCounts, field_count};
 ghost use Rattle.vp_isa.specs.declared.code.Code.{Code};
 ghost use Rattle.vp_isa.specs.declared.instr.Instr.TheVariants.{Jmp};
 ghost use Rattle.vp_isa.specs.Answering.{machine_of};
-ghost use Rattle.vp_isa.specs.Block.{HasAt};
+ghost use Rattle.vp_isa.specs.Block.{HasAt, after};
 ghost use Rattle.vp_isa.specs.Machine.{MachineState};
 ghost use Rattle.vp_isa.specs.Valid.{IsValid};
-ghost use Rattle.vp_interval.specs.Rounding.{Ends};
+ghost use Rattle.vp_interval.specs.Rounding.{Ends, product};
 ghost use Rattle.vp_sandbox.specs.declared.sandbox.Sandbox.{Sandbox};
 ghost use Rattle.vp_sandbox.specs.Answer.{sandbox_of};
 ghost use Rattle.vp_sandbox.specs.Boxes.{boxes_of, first_state, placed};
-ghost use Rattle.vp_layout.specs.Blocks.{act_code, copies, take_code};
-ghost use Rattle.vp_layout.specs.Cells.{StandAt};
-ghost use Rattle.vp_layout.specs.Homes.{next_control_cell, next_state_cell, state_cell};
+ghost use Rattle.vp_layout.specs.Blocks.{act_code, copies, product_code, take_code};
+ghost use Rattle.vp_layout.specs.Cells.{IsApart, LeavesUsing, StandAt};
+ghost use Rattle.vp_layout.specs.declared.home.Home.{Home};
+ghost use Rattle.vp_layout.specs.Homes.{box_at, next_control_cell, next_state_cell, state_cell};
 ghost use Rattle.vp_layout.specs.Ties.{Acted, Keeping, Replies, RepliesToAll, Stands, Taken, Takes, accepted, standing};
 
 use vp_isa::laws::{block_is_run, blocks_split, machine_stands, run_is_answer, runs_compose};
+
+/// The code of a product leaves the product of the intervals of its two homes, which stand apart from
+/// the cells that it writes.
+pub fn products_are_computed()
+    ensures { (c : List ℤ) (d t : ℕ) (v w : Home) →
+        t ≢ d → t ≢ d + 1 → d + 1 < length c → t < length c →
+        IsApart d t v → IsApart d t w → IsApart (d + 1) t v → IsApart (d + 1) t w →
+        LeavesUsing d t (product (box_at c v) (box_at c w)) c (after (product_code d t v w) c) }
+{}
 
 /// Behind the TAKE of a record and the constants, the boxes over which the record is tested are at
 /// home, and its words stand in its cells.

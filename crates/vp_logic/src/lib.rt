@@ -9,8 +9,6 @@ mod negation;
 mod norm;
 mod renaming;
 mod splitting;
-#[cfg(test)]
-mod tests;
 
 pub use forming::{normal, term_count};
 pub use making::{all_of, any_of};

@@ -9,8 +9,6 @@ mod mono;
 mod places;
 mod poly;
 mod scaled;
-#[cfg(test)]
-mod tests;
 mod weight;
 
 pub use canonical::{PolyErr, of_difference, of_expr, weights_of};

@@ -14,8 +14,6 @@ mod sections;
 mod spelling;
 mod strays;
 mod terminals;
-#[cfg(test)]
-mod tests;
 
 pub use fault::ReadErr;
 pub use parts::{read_cert, read_expr, read_formula};

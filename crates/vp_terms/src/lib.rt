@@ -11,8 +11,6 @@ mod package;
 mod prog;
 mod ratio;
 mod running;
-#[cfg(test)]
-mod tests;
 mod well_formed;
 
 pub use evaluate::{holds_at, value_at};

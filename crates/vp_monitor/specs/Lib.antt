@@ -1,0 +1,11 @@
+pub mod Errors
+pub mod Exchange
+pub mod Fallback
+pub mod Flowing
+pub mod Meaning
+pub mod Monitors
+pub mod Obligations
+pub mod Plant
+pub mod Refusals
+pub mod Slack
+pub mod Standing
