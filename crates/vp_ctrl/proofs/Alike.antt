@@ -1,13 +1,9 @@
 -- Programs with one tree have the same ways, but for boxes.
-use Rattle.std.proofs.Common.{◌≡◌, ℕ, ◌+◌, ◌*◌, Bool, true, false, ◌&&◌, ◌||◌, ◌==◌, nat_le, if◌then◌else◌, List, [], ◌∷◌, ◌++◌, map, Option, None, Some, refl, sym, ap, ap₂, ◌∙◌, subst}
-use Rattle.std.specs.Prelude.{sum_by}
-use Rattle.std.specs.List.{flat_map, list_all, range_with_len}
+use Rattle.std.proofs.Common.{◌≡◌, ℕ, ◌+◌, ◌*◌, Bool, true, false, ◌||◌, ◌==◌, if◌then◌else◌, List, [], ◌∷◌, ◌++◌, map, Option, None, Some, refl, sym, ap, ap₂, ◌∙◌}
+use Rattle.std.specs.List.{flat_map, range_with_len}
 use Rattle.std.proofs.Math.Path.{fun_ext}
 use Rattle.std.proofs.lemmas.List.{map-append}
-use Rattle.std.proofs.lemmas.List.Sums.{sum_by-cons}
-use Rattle.vp_terms.specs.Places.{place_count}
 use Rattle.vp_terms.specs.Tree.{ExprTree, Constant, Place, Sum, Difference, Product, Power, FormulaTree, Always, Compares, Both, Either, Denial, ProgTree, Nothing, Gives as GivesOf, GivesAny as GivesAnyOf, Passes as PassesOf, OneOf, Then, Where, expr_tree, formula_tree, prog_tree}
-use Rattle.vp_terms.specs.declared.expr.Places.{Places}
 use Rattle.vp_terms.specs.declared.expr.Var.{Var}
 use Rattle.vp_terms.specs.declared.expr.Var.TheVariants.{Param, State, Control, NextState, NextControl, Tau}
 use Rattle.vp_terms.specs.declared.expr.Expr.{Expr}
@@ -19,7 +15,7 @@ use Rattle.vp_terms.specs.declared.prog.Prog.{Prog}
 use Rattle.vp_terms.specs.declared.prog.Prog.TheVariants.{Skip, Assign, Any, Test, Choice', Seq', If'}
 use Rattle.vp_poly.specs.Replaced.{replaced, formula_replaced}
 use Rattle.vp_ctrl.specs.Following.{StandIns, Condition, after, after_all, at_first, conditions, equals_next, equation, given_last, instead, is_given_last, right_side, right_sides, stands, test, tests}
-use Rattle.vp_ctrl.specs.Hidden.{again, changed, changed_again, first_hidden, gives_any, hidden_on, is_given, or_next}
+use Rattle.vp_ctrl.specs.Hidden.{again, changed, changed_again, first_hidden, gives_any, is_given, or_next}
 use Rattle.vp_ctrl.specs.Ways.{Move, Gives, GivesAny, Passes, Fails, Way, joined, ways, way_count}
 
 -- ---- replaced variables

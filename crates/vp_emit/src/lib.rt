@@ -4,7 +4,5 @@
 mod builder;
 pub mod laws;
 mod target;
-#[cfg(test)]
-mod tests;
 
 pub use builder::{BuildErr, Builder};

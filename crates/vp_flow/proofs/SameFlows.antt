@@ -1,11 +1,11 @@
 -- Packages with one tree have the same right sides and the same refusals.
-use Rattle.std.proofs.Common.{◌≡◌, ℕ, ◌<◌, false, List, length, map, Option, None, Some, slice_get, refl, sym, ap, ◌∙◌, subst}
+use Rattle.std.proofs.Common.{◌≡◌, ℕ, false, List, length, map, Option, None, Some, slice_get, refl, sym, ap, ◌∙◌, subst}
 use Rattle.std.specs.Prelude.{IfSome, option_map}
 use Rattle.std.proofs.Math.Path.{fun_ext}
 use Rattle.std.proofs.lemmas.List.{length-map}
 use Rattle.std.proofs.lemmas.Option.{slice_get-map}
 use Rattle.vp_terms.specs.Packages.{PackageTree, package_tree}
-use Rattle.vp_terms.specs.Tree.{ExprTree, expr_tree}
+use Rattle.vp_terms.specs.Tree.{expr_tree}
 use Rattle.vp_terms.specs.WellFormed.{places_of}
 use Rattle.vp_terms.specs.declared.expr.Expr.{Expr}
 use Rattle.vp_terms.specs.declared.expr.Places.{Places}
@@ -17,7 +17,7 @@ use Rattle.vp_poly.specs.Canonical.{IsCanonical, own_weight, own_weights, variab
 use Rattle.vp_poly.specs.Coefficient.{Coefficients, coefficients}
 use Rattle.vp_poly.specs.Weights.{Weights, fits, weight, weight_at}
 use Rattle.vp_terms.specs.Places.{place_count}
-use Rattle.vp_flow.specs.Outcome.{AreLinear, HasCycle, IsBent, IsFirstNamed, IsOver, IsWide, Refuses}
+use Rattle.vp_flow.specs.Outcome.{AreLinear, IsOver, Refuses}
 use Rattle.vp_flow.specs.Sides.{AreRightSides, IsPolynomialOf, model, rate_of, rates_of}
 use Rattle.vp_flow.specs.declared.error.FlowErr.{FlowErr}
 use Rattle.vp_flow.specs.declared.error.FlowErr.TheVariants as flow

@@ -8,7 +8,5 @@ mod form;
 mod generate;
 mod poly;
 mod power;
-#[cfg(test)]
-mod tests;
 
 pub use generate::{GenErr, compile};

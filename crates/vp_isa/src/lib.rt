@@ -7,8 +7,6 @@ mod code;
 mod encoding;
 mod instr;
 pub mod laws;
-#[cfg(test)]
-mod tests;
 
 pub use code::{CheckErr, Checked, Code, Instrs};
 pub use encoding::{decode, encode};

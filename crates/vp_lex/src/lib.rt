@@ -5,8 +5,6 @@
 mod byte;
 pub mod laws;
 mod scan;
-#[cfg(test)]
-mod tests;
 mod token;
 mod word;
 

@@ -9,9 +9,13 @@ pub mod Four
 pub mod Inductive
 pub mod Meant
 pub mod Naming
+pub mod OneList
+pub mod OneRefusal
+pub mod OneSplit
 pub mod Parting
 pub mod Planting
 pub mod Refused
+pub mod SameTrees
 pub mod Slacking
 pub mod Slacks
 pub mod States

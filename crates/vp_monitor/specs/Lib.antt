@@ -7,5 +7,6 @@ pub mod Monitors
 pub mod Obligations
 pub mod Plant
 pub mod Refusals
+pub mod Same
 pub mod Slack
 pub mod Standing

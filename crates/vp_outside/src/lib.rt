@@ -8,8 +8,6 @@ mod memory;
 mod sink;
 mod source;
 mod store;
-#[cfg(test)]
-mod tests;
 
 pub use failed::Failed;
 pub use fields::{Files, Listed, Reserved, Text};

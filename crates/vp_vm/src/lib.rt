@@ -4,8 +4,6 @@
 mod execute;
 mod machine;
 mod steps;
-#[cfg(test)]
-mod tests;
 
 pub use machine::{Machine, VmReply};
 pub use steps::Steps;

@@ -1,4 +1,0 @@
-use Rattle.vp_gen.proofs.tests.+balanced.Given as goal
-
-abbrev pub decreases-balanced : goal.decreases-balanced
-decreases-balanced l = l.depth
