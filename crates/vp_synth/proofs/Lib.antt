@@ -1,0 +1,15 @@
+pub mod Accepted
+pub mod Alike
+pub mod Appending
+pub mod Fitting
+pub mod Judged
+pub mod Lines
+pub mod Listed
+pub mod Made
+pub mod Meaning
+pub mod Once
+pub mod Powers
+pub mod Refusing
+pub mod Unmade
+pub mod Verdict
+pub mod Walking

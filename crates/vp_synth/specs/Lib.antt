@@ -1,0 +1,9 @@
+pub mod Printing
+pub mod Factors
+pub mod Listing
+pub mod Sandboxes
+pub mod Certifying
+pub mod Accepting
+pub mod Stages
+pub mod Errors
+pub mod Going
