@@ -7,14 +7,22 @@ use Rattle.vp_image.specs.Image.{image_read}
 use Rattle.vp_outside.specs.Causes.{Rose}
 use Rattle.vp_outside.specs.Content.{AppendsPart, Tells}
 use Rattle.vp_outside.specs.Loading.{NamedFile, file_named}
-use Rattle.vp_read.specs.Stages.{Declared, Passes}
+use Rattle.vp_monitor.specs.Flowing.{IsExactFlow}
 use Rattle.vp_runner.specs.Ends.{PrintsInTime, PrintsTaken}
+use Rattle.vp_sandbox.specs.declared.sandbox.Sandbox.{Sandbox}
+use Rattle.vp_stream.specs.Run.{run}
+use Rattle.vp_synth.specs.Accepting.{Accepts}
+use Rattle.vp_synth.specs.Stages.{Declared, Passes}
 use Rattle.vp_terms.specs.declared.package.Package.{Package}
+use Rattle.vp_terms.specs.Model.{Claim, IsInductive, model_of}
+use Rattle.vp_terms.specs.Plant.{Flow}
 use Rattle.vp_cmd.specs.declared.status.Status.{Status}
-use Rattle.vp_cmd.specs.declared.status.Status.TheVariants.{Usage, Refused, BadImage, ReadFault, WriteFault, StoreFault, WantOfMemory}
-use Rattle.vp_cmd.specs.Commands.{Command, Exec, first_file, second_file}
+use Rattle.vp_cmd.specs.declared.status.Status.TheVariants.{Done, Usage, Refused, Violation, BadLine, BadImage, TooMuch, ReadFault, WriteFault, StoreFault, WantOfMemory}
+use Rattle.vp_cmd.specs.Commands.{Command, Check, Compile, Demo, Exec, Run, first_file, second_file}
 use Rattle.vp_cmd.specs.Dues.{image_limit, package_limit}
-use Rattle.vp_cmd.specs.Outcomes.{Outcome}
+use Rattle.vp_cmd.specs.Images.{IsImageOf, IsSandboxFor, RunsAs}
+use Rattle.vp_cmd.specs.Outcomes.{Outcome, status_of}
+use Rattle.vp_cmd.specs.Tank.{tank}
 
 -- ---- the outcome
 
@@ -31,6 +39,40 @@ Fulfils IsOwed result before now = (o : Outcome) × IsOwed o × (result ≡ o.st
 abbrev pub Completes : (Outcome → Type 0) → Status → Option (List ℕ) → Option (List ℕ) → Type 0
 Completes IsOwed result before now =
     ((result ≡ WantOfMemory) × Keeps before now) ⊎ ((o : Outcome) × IsOwed o × (result ≡ o.status) × Appends before now o.text)
+
+-- ---- what `check` shows
+
+-- the plant of the package has an exact flow, and with each such flow its invariant is inductive and its
+-- model keeps its claim
+pub record IsProved (pkg : Package) : Type 0 where
+  pub flow : Flow
+  pub exact : IsExactFlow pkg flow
+  pub inductive : (f : Flow) → IsExactFlow pkg f → IsInductive (model_of f pkg)
+  pub claim : (f : Flow) → IsExactFlow pkg f → Claim (model_of f pkg)
+
+-- the file is there, and no longer than the limit of a package; and this is so of its text
+abbrev pub HoldsText : Option (List NamedFile) → List ℕ → (List ℕ → Type 0) → Type 0
+HoldsText files name Is =
+    (fs : List NamedFile) × Tells files fs × IsSomeAnd (file_named name fs) (λ text. (length text ≤ package_limit) × Is text)
+
+-- the text is accepted as a package that is proved
+abbrev pub IsProvedText : List ℕ → Type 0
+IsProvedText text = (pkg : Package) × Accepts text pkg × IsProved pkg
+
+-- ---- what images are
+
+-- these bytes were written, and they are the image of one checked code that runs as the sandbox of this
+-- text does, which guards its package's model
+abbrev pub WritesImage : Option (List ℕ) → Option (List ℕ) → List ℕ → Type 0
+WritesImage before now text = (s : Sandbox) × IsSandboxFor text s × ((bytes : List ℕ) × IsImageOf text s bytes × Appends before now bytes)
+
+-- what is shown by a command that is done: of `check` that the package is proved; of `compile` and `demo`
+-- that an image of the package was written
+abbrev pub Shows : Option (List NamedFile) → Option Command → Option (List ℕ) → Option (List ℕ) → Type 0
+Shows files (Some (Check p)) before now = HoldsText files p IsProvedText
+Shows files (Some (Compile p)) before now = HoldsText files p (WritesImage before now)
+Shows files (Some Demo) before now = WritesImage before now tank
+Shows files command before now = Unit {0}
 
 -- ---- faults
 
@@ -76,10 +118,27 @@ pub record IsCodeOf (files : List NamedFile) (name : List ℕ) (code : Code) : T
   pub short : length bytes ≤ image_limit
   pub is_read : image_read bytes ≡ Ok (code, digest)
 
--- the command answers an input by this code: that of the image in its file
+-- the command answers an input by this code: `exec` by that of the image in its file, `run` by one that
+-- runs as the sandbox of the package in its file, which guards the package's model
 abbrev pub RunsBy : Option (List NamedFile) → Option Command → Code → Type 0
 RunsBy files (Some (Exec i)) code = (fs : List NamedFile) × Tells files fs × IsCodeOf fs i code
+RunsBy files (Some (Run p)) code = HoldsText files p (λ text. (s : Sandbox) × IsSandboxFor text s × RunsAs code s)
 RunsBy files command code = ⊥
+
+-- a run over an input was begun, and no write failed
+abbrev pub IsAnswered : Status → Type 0
+IsAnswered Done = Unit {0}
+IsAnswered Violation = Unit {0}
+IsAnswered BadLine = Unit {0}
+IsAnswered TooMuch = Unit {0}
+IsAnswered result = ⊥
+
+-- what was written is the text of the run over the input of a code by which the command answers, and the
+-- status is its verdict
+abbrev pub Answers : Option (List NamedFile) → Option Command → Status → Option (List ℕ) → Option (List ℕ) → Option (List ℕ) → Type 0
+Answers files command result left before now =
+    (code : Code) × RunsBy files command code × ((bytes : List ℕ) × Tells left bytes
+    × (result ≡ status_of (run (machine_of code) bytes).verdict) × Appends before now (run (machine_of code) bytes).text)
 
 -- the bytes that were taken have not ended the run, and what they give so far was written
 abbrev pub LeavesTaken : Option (List NamedFile) → Option Command → Option (List ℕ) → Option (List ℕ) → Option (List ℕ) → Option (List ℕ) → Type 0

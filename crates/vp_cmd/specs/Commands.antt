@@ -70,8 +70,9 @@ command_of words = None
 -- the command, unless it is not built yet: its words are then as good as none
 abbrev pub built : Option Command → Option Command
 built (Some (Check p)) = Some (Check p)
-built (Some (Exec i)) = Some (Exec i)
-built command = None
+built (Some (Log p c)) = None
+built (Some (SelfTest seed rounds)) = None
+built command = command
 
 -- the command that is done for words, if one is
 abbrev pub chosen : List (List ℕ) → Option Command
@@ -99,3 +100,9 @@ first_file (Some Demo) = None
 abbrev pub second_file : Option Command → Option (List ℕ)
 second_file (Some (Log p c)) = Some c
 second_file command = None
+
+-- it writes an image
+abbrev pub writes_image : Option Command → Bool
+writes_image (Some (Compile p)) = true
+writes_image (Some Demo) = true
+writes_image command = false

@@ -1,7 +1,10 @@
+pub mod Alike
 pub mod Clauses
 pub mod Commands
 pub mod Dues
+pub mod Images
 pub mod Outcomes
 pub mod Printed
 pub mod Shown
 pub mod Steps
+pub mod Tank

@@ -1,5 +1,5 @@
 -- What private calls say to one another: files that were loaded, why a command halts, what was printed.
-use Rattle.std.specs.Prelude.{◌≡◌, ℕ, ◌<◌, ◌≤◌, List, [], length, Option, None, Some, Result, Err, false}
+use Rattle.std.specs.Prelude.{◌≡◌, ℕ, ◌<◌, ◌≤◌, List, [], length, codes, Option, None, Some, Result, Err, false}
 use Rattle.std.specs.Io.KnownBytes.{Appends}
 use Rattle.vp_isa.specs.Answering.{machine_of}
 use Rattle.vp_isa.specs.declared.code.Code.{Code}
@@ -15,12 +15,19 @@ use Rattle.vp_cmd.specs.declared.opening.Halt.{Halt}
 use Rattle.vp_cmd.specs.declared.opening.Halt.TheVariants as halt
 use Rattle.vp_cmd.specs.declared.opening.Task.{Task}
 use Rattle.vp_cmd.specs.declared.opening.Task.TheVariants as task
-use Rattle.vp_cmd.specs.Clauses.{Fulfils, RunsBy}
-use Rattle.vp_cmd.specs.Commands.{Command, reads_input}
-use Rattle.vp_cmd.specs.Dues.{IsDue, OfImage, OfPackage}
-use Rattle.vp_cmd.specs.Outcomes.{Outcome, run_outcome}
-use Rattle.vp_read.specs.Stages.{Declared}
+use Rattle.vp_cmd.specs.Clauses.{Fulfils, HoldsText, IsProvedText, RunsBy}
+use Rattle.vp_cmd.specs.Commands.{Command, Check, Compile, Demo, reads_input}
+use Rattle.vp_cmd.specs.Dues.{IsDue, OfFile, OfImage, OfPackage, OfSandbox, package_limit}
+use Rattle.vp_cmd.specs.Images.{IsImageOf, IsSandboxFor}
+use Rattle.vp_cmd.specs.Outcomes.{Outcome, done, refused, run_outcome}
+use Rattle.vp_cmd.specs.Tank.{tank}
+use Rattle.vp_sandbox.specs.declared.sandbox.Sandbox.{Sandbox}
 use Rattle.vp_runner.specs.Sessions.{StandsFor}
+use Rattle.vp_synth.specs.Stages.{Stage}
+use Rattle.vp_synth.specs.declared.refusal.Refusal.{Refusal}
+use Rattle.vp_synth.specs.declared.refusal.Refusal.TheVariants.{Read, Memory}
+use Rattle.vp_read.specs.Reading.{IsPackage}
+use Rattle.vp_terms.specs.declared.package.Package.{Package}
 
 -- a text was printed under its status, or a proper part of it where a write failed
 abbrev pub Prints : Outcome → Status → Option (List ℕ) → Option (List ℕ) → Type 0
@@ -58,6 +65,10 @@ abbrev pub LoadCause : {T : Type 0} → Result T Halt → Option (List ℕ) → 
 LoadCause (Err halt.StoreFault) name before now failed_before failed_now = Rose before now × (name ≡ Some failed_now)
 LoadCause result name before now failed_before failed_now = (now ≡ before) × (failed_now ≡ failed_before)
 
+-- the outcome is an image of the package that the text is
+abbrev pub ImageIs : List ℕ → Outcome → Type 0
+ImageIs text o = (s : Sandbox) × IsSandboxFor text s × ((bytes : List ℕ) × IsImageOf text s bytes × (o ≡ done bytes))
+
 -- what a command does once its files are open: prints the usage line, prints what is due for every
 -- input, or answers the input by the code of its image
 abbrev pub IsTask : Option (List NamedFile) → Option Command → Task → Type 0
@@ -69,8 +80,32 @@ IsTask files command (task.Stream s) = RunsBy files command s.code × StandsFor 
 abbrev pub ImageRefused : List ℕ → List NamedFile → Outcome → Type 0
 ImageRefused name fs o = OfImage fs name (λ code o. ⊥) o
 
-abbrev pub PackageRefused : List ℕ → List NamedFile → Outcome → Type 0
-PackageRefused name fs o = OfPackage fs name Declared (λ pkg o. ⊥) o
+abbrev pub PackageRefused : Stage → (List ℕ → Package → Outcome → Type 0) → List ℕ → List NamedFile → Outcome → Type 0
+PackageRefused stage IsOwed name fs o = OfPackage fs name stage IsOwed o
+
+-- what refuses a text that is a package: nothing, or a size of its sandbox
+abbrev pub IsUnrefused : List ℕ → Package → Outcome → Type 0
+IsUnrefused text pkg o = ⊥
+
+abbrev pub IsOversized : List ℕ → Package → Outcome → Type 0
+IsOversized text pkg o = OfSandbox (λ s o. ⊥) pkg o
+
+-- what is due of the file of a package that is too long
+abbrev pub LongRefused : List ℕ → List NamedFile → Outcome → Type 0
+LongRefused name fs o = OfFile fs name package_limit (refused (codes "length")) (λ text o. ⊥) o
+
+-- the text is a package, unless the refusal is one of the text alone, or want of memory
+abbrev pub IsNamed : List ℕ → Refusal → Type 0
+IsNamed text (Read e) = Unit {0}
+IsNamed text Memory = Unit {0}
+IsNamed text r = (pkg : Package) × IsPackage text pkg
+
+-- what a task shows that is printed
+abbrev pub IsShown : Option (List NamedFile) → Option Command → Task → Type 0
+IsShown files (Some (Check p)) task = HoldsText files p IsProvedText
+IsShown files (Some (Compile p)) (task.Print o) = HoldsText files p (λ text. ImageIs text o)
+IsShown files (Some Demo) (task.Print o) = ImageIs tank o
+IsShown files command task = Unit {0}
 
 -- the status under which a run over the input has ended
 abbrev pub status_at : RunEnd → Status

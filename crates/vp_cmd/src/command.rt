@@ -4,7 +4,7 @@ ghost use Rattle.std.specs.Io.KnownBytes.{IsAtEnd};
 ghost use Rattle.vp_isa.specs.Answering.{machine_of};
 ghost use Rattle.vp_runner.specs.Ends.{PrintsInTime, PrintsTaken};
 ghost use Rattle.vp_runner.specs.Sessions.{StandsFor};
-ghost use Rattle.vp_cmd.specs.Clauses.{Completes, Fulfils, IsCaused, IsOwnName, IsUnopened, LeavesInTime, LeavesTaken, NoFault};
+ghost use Rattle.vp_cmd.specs.Clauses.{Answers, Completes, Fulfils, IsAnswered, IsCaused, IsOwnName, IsUnopened, LeavesInTime, LeavesTaken, NoFault, Shows};
 ghost use Rattle.vp_cmd.specs.Commands.{chosen, reads_input, texts};
 ghost use Rattle.vp_cmd.specs.Dues.{IsOwed};
 ghost use Rattle.vp_cmd.specs.Printed.{IsPrinted};
@@ -87,6 +87,19 @@ pub fn vphy<St: Store, So: Source, Si: Sink>(
         (So.faults input.old) (So.faults input.new) (Si.faults out.old) (Si.faults out.new) →
         Completes (IsOwed (St.files store.old) (So.left input.old) (chosen (texts words.now)))
         result (Si.written out.old) (Si.written out.new) }
+
+    // Where `check` is done, the invariant of its package is inductive, and its model keeps its claim. Where
+    // `compile` or `demo` is, the bytes are the image of a code that runs as the package's sandbox does.
+    ensures shows { result ≡ Status.Done → Shows (St.files store.old) (chosen (texts words.now))
+        (Si.written out.old) (Si.written out.new) }
+
+    // Where `exec` or `run` has answered, the bytes are the text of the code's run over the input. That of
+    // `run` runs as the package's sandbox does. It guards the model: over every input each history that the
+    // records before a violation represent is a sampled run, safe at each sensing, and no monitor that is
+    // Yes is reported.
+    ensures answers { reads_input (chosen (texts words.now)) ≡ true → IsAnswered result →
+        Answers (St.files store.old) (chosen (texts words.now)) result
+        (So.left input.old) (Si.written out.old) (Si.written out.new) }
 
     // A fault is answered only where its object's count rose; else that count is as it was.
     ensures store_cause { IsCaused Status.StoreFault result (St.faults store.old) (St.faults store.new) }

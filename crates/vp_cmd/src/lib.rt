@@ -5,12 +5,11 @@ mod command;
 pub mod laws;
 mod opening;
 mod outcome;
+mod packages;
 mod refusal;
 mod status;
+mod tank;
 mod words;
 
 pub use command::vphy;
 pub use status::Status;
-
-#[cfg(test)]
-mod tests;

@@ -1,22 +1,26 @@
 //! What a command opens before it answers: its files, and what they hold.
-ghost use Rattle.std.specs.Prelude.{[], ◌≡◌, ◌≢◌, ◌≤◌, ℕ, IfErr, IfOk, List, MatchOption, Ok, Some, length};
+ghost use Rattle.std.specs.Prelude.{[], ◌≡◌, ◌≢◌, ◌≤◌, ℕ, IfErr, IfOk, List, MatchOption, Ok, Option, Some};
 ghost use Rattle.vp_image.specs.Image.{image_read};
-ghost use Rattle.vp_read.specs.Stages.{Declared, Passes};
+ghost use Rattle.vp_isa.specs.declared.code.Code.{Code};
+ghost use Rattle.vp_outside.specs.Loading.{NamedFile};
 ghost use Rattle.vp_runner.specs.Sessions.{StandsFor};
-ghost use Rattle.vp_cmd.specs.Clauses.{RunsBy};
-ghost use Rattle.vp_cmd.specs.Commands.{Check, Exec, chosen, first_file, texts};
+ghost use Rattle.vp_synth.specs.Stages.{Certified, Split};
+ghost use Rattle.vp_cmd.specs.Clauses.{IsUnopened, RunsBy};
+ghost use Rattle.vp_cmd.specs.Commands.{Check, Compile, Demo, Exec, Listing, Run, chosen, first_file, texts};
 ghost use Rattle.vp_cmd.specs.Dues.{IsDue, OfCode, OfText, package_limit};
-ghost use Rattle.vp_cmd.specs.Steps.{Halts, ImageRefused, IsStored, IsTask, IsTooLong, LoadCause, OfStored, PackageRefused};
+ghost use Rattle.vp_cmd.specs.Steps.{Halts, ImageRefused, IsOversized, IsShown, IsStored, IsTask, IsTooLong, IsUnrefused, LoadCause, LongRefused, OfStored, PackageRefused};
+ghost use Rattle.vp_cmd.specs.Tank.{tank};
 
 use crate::outcome::Outcome;
-use crate::refusal::{bad_image, bad_package, line};
+use crate::packages::{check_text, image_of, listed};
+use crate::refusal::{bad_image, line};
 use crate::status::Status;
+use crate::tank::tank;
 use crate::words::{Command, command_of};
 use std::alloc::{AllocError, Global};
+use vp_image::ImageErr;
 use vp_outside::{LoadErr, Loaded, Store};
-use vp_read::read_package;
 use vp_runner::Session;
-use vp_terms::Package;
 
 /// The most bytes that the file of an image has.
 const IMAGE_LIMIT: u32 = 2_097_152;
@@ -104,41 +108,97 @@ fn open_session<St: Store>(alloc: Global, name: &str, store: &mut St) -> Result<
     }
 }
 
-/// Reads a package from its text, which is not too long.
-fn read(alloc: Global, text: &[u8]) -> Result<Package, Halt>
-    requires { length text.now ≤ package_limit }
-    ensures opened { IfOk result (λ pkg. Passes Declared text.now pkg) }
-    ensures halted { IfErr result (Halts (OfText Declared (λ pkg o. ⊥) text.now)) }
-    ensures no_load { IfErr result (λ halt. halt ≢ Halt.StoreFault) }
-{
-    match read_package(alloc, text) {
-        Ok(pkg) => Ok(pkg),
-        Err(why) => Err(Halt::Due(bad_package(alloc, why)?)),
-    }
-}
-
-/// Opens the package in a file.
-fn open_package<St: Store>(alloc: Global, name: &str, store: &mut St) -> Result<Package, Halt>
-    ensures opened { IfOk result (λ pkg. (text : List ℕ) × IsStored (St.files store.old) name.now package_limit text × Passes Declared text pkg) }
-    ensures halted { IfErr result (Halts (OfStored (St.files store.old) (PackageRefused name.now))) }
+/// Loads the text of a package.
+fn open_text<St: Store>(alloc: Global, name: &str, store: &mut St) -> Result<Vec<u8>, Halt>
+    ensures opened { IfOk result (λ text. IsStored (St.files store.old) name.now package_limit text.items) }
+    ensures halted { IfErr result (Halts (OfStored (St.files store.old) (LongRefused name.now))) }
     ensures cause { LoadCause result (Some name.now) (St.faults store.old) (St.faults store.new)
         (St.failed store.old) (St.failed store.new) }
 {
     match load(alloc, name, PACKAGE_LIMIT, store)? {
-        Some(text) => read(alloc, &text),
+        Some(text) => Ok(text),
         None => Err(Halt::Due(line(alloc, Status::Refused, "refused length\n")?)),
     }
 }
 
-/// Checks a package. Nothing is built from one yet, so each is refused.
+/// Checks a package.
 fn check<St: Store>(alloc: Global, name: &str, store: &mut St) -> Result<Task, Halt>
     ensures task { IfOk result (IsTask (St.files store.old) (Some (Check name.now))) }
-    ensures halted { IfErr result (Halts (OfStored (St.files store.old) (PackageRefused name.now))) }
+    ensures shown { IfOk result (IsShown (St.files store.old) (Some (Check name.now))) }
+    ensures halted { IfErr result (Halts (OfStored (St.files store.old) (PackageRefused Certified IsUnrefused name.now))) }
     ensures cause { LoadCause result (Some name.now) (St.faults store.old) (St.faults store.new)
         (St.failed store.old) (St.failed store.new) }
 {
-    let _package = open_package(alloc, name, store)?;
-    Ok(Task::Print(line(alloc, Status::Refused, "refused unbuilt\n")?))
+    let text = open_text(alloc, name, store)?;
+    check_text(alloc, &text)?;
+    Ok(Task::Print(line(alloc, Status::Done, "accepted\n")?))
+}
+
+/// Compiles a package to an image.
+fn compile<St: Store>(alloc: Global, name: &str, store: &mut St) -> Result<Task, Halt>
+    ensures task { IfOk result (IsTask (St.files store.old) (Some (Compile name.now))) }
+    ensures shown { IfOk result (IsShown (St.files store.old) (Some (Compile name.now))) }
+    ensures halted { IfErr result (Halts (OfStored (St.files store.old) (PackageRefused Certified IsOversized name.now))) }
+    ensures cause { LoadCause result (Some name.now) (St.faults store.old) (St.faults store.new)
+        (St.failed store.old) (St.failed store.new) }
+{
+    let text = open_text(alloc, name, store)?;
+    Ok(Task::Print(Outcome {
+        status: Status::Done,
+        text: image_of(alloc, &text)?,
+    }))
+}
+
+/// Opens a session over an image that was just written.
+fn start_written(alloc: Global, image: &[u8]) -> Result<Session, AllocError>
+    requires { (code : Code) × (digest : List ℕ) × (image_read image.now ≡ Ok (code, digest)) }
+    ensures { IfOk result (λ s. ((digest : List ℕ) × (image_read image.now ≡ Ok (s.code, digest))) × StandsFor s.code [] s) }
+{
+    match Session::start(alloc, image) {
+        Ok(session) => Ok(session),
+        Err(ImageErr::Memory) => Err(AllocError),
+        // An image that was written is read back.
+        Err(_) => unreachable!(),
+    }
+}
+
+/// Compiles a package, to run it over the input.
+fn run<St: Store>(alloc: Global, name: &str, store: &mut St) -> Result<Task, Halt>
+    ensures task { IfOk result (IsTask (St.files store.old) (Some (Run name.now))) }
+    ensures halted { IfErr result (Halts (OfStored (St.files store.old) (PackageRefused Certified IsOversized name.now))) }
+    ensures cause { LoadCause result (Some name.now) (St.faults store.old) (St.faults store.new)
+        (St.failed store.old) (St.failed store.new) }
+{
+    let text = open_text(alloc, name, store)?;
+    let image = image_of(alloc, &text)?;
+    Ok(Task::Stream(start_written(alloc, &image)?))
+}
+
+/// Lists what is made of a package.
+fn listing<St: Store>(alloc: Global, name: &str, store: &mut St) -> Result<Task, Halt>
+    ensures task { IfOk result (IsTask (St.files store.old) (Some (Listing name.now))) }
+    ensures halted { IfErr result (Halts (OfStored (St.files store.old) (PackageRefused Split IsUnrefused name.now))) }
+    ensures cause { LoadCause result (Some name.now) (St.faults store.old) (St.faults store.new)
+        (St.failed store.old) (St.failed store.new) }
+{
+    let text = open_text(alloc, name, store)?;
+    Ok(Task::Print(Outcome {
+        status: Status::Done,
+        text: listed(alloc, &text)?,
+    }))
+}
+
+/// Compiles the tank to an image.
+fn demo(alloc: Global) -> Result<Task, Halt>
+    ensures task { (files : Option (List NamedFile)) → IfOk result (IsTask files (Some Demo)) }
+    ensures shown { (files : Option (List NamedFile)) → IfOk result (IsShown files (Some Demo)) }
+    ensures halted { IfErr result (Halts (OfText Certified IsOversized tank)) }
+    ensures no_load { IfErr result (λ halt. halt ≢ Halt.StoreFault) }
+{
+    Ok(Task::Print(Outcome {
+        status: Status::Done,
+        text: image_of(alloc, tank())?,
+    }))
 }
 
 /// Runs an image over the input.
@@ -157,14 +217,19 @@ pub(crate) fn open<St: Store>(alloc: Global, words: &[String], store: &mut St) -
     ensures task { IfOk result (IsTask (St.files store.old) (chosen (texts words.now))) }
     ensures halted { IfErr result (Halts (OfStored (St.files store.old)
         (λ fs o. (input : List ℕ) → IsDue fs input (chosen (texts words.now)) o))) }
-    ensures refused { IfErr result (Halts (λ o. o.status ≢ Status.Done)) }
+    ensures shown { IfOk result (IsShown (St.files store.old) (chosen (texts words.now))) }
+    ensures refused { IfErr result (Halts (λ o. IsUnopened o.status)) }
     ensures cause { LoadCause result (first_file (chosen (texts words.now))) (St.faults store.old)
         (St.faults store.new) (St.failed store.old) (St.failed store.new) }
 {
     match command_of(words) {
         Some(Command::Check(name)) => check(alloc, name, store),
+        Some(Command::Compile(name)) => compile(alloc, name, store),
         Some(Command::Exec(name)) => exec(alloc, name, store),
+        Some(Command::Run(name)) => run(alloc, name, store),
+        Some(Command::Listing(name)) => listing(alloc, name, store),
+        Some(Command::Demo) => demo(alloc),
         // The other commands are not built yet.
-        _ => Ok(Task::Usage),
+        Some(Command::Log(..) | Command::SelfTest { .. }) | None => Ok(Task::Usage),
     }
 }

@@ -6,4 +6,3 @@ pub mod Pieces
 pub mod Reading
 pub mod Sections
 pub mod Spelling
-pub mod Stages

@@ -2,7 +2,7 @@ use Rattle.std.proofs.Common.{Option, sym, subst, refl}
 use Rattle.vp_cmd.specs.Commands.{Command, chosen, texts}
 use Rattle.vp_cmd.specs.Dues.{IsOwed}
 use Rattle.vp_cmd.specs.Outcomes.{usage}
-use Rattle.vp_cmd.proofs.Streaming.{complete_printed, complete_run, fulfils_due, fulfils_run, owed_always, owed_usage}
+use Rattle.vp_cmd.proofs.Streaming.{answers_run, complete_printed, complete_run, fulfils_due, fulfils_run, owed_always, owed_usage, shown_printed, shown_run, unopened_result}
 use Rattle.vp_cmd.proofs.command.vphy.Goals as goal
 
 pub returns-in-Ok-Usage-clause-content : goal.returns-in-Ok-Usage-clause-content
@@ -59,3 +59,23 @@ returns-in-Err-Due-clause-complete g c =
     let left = g.So.Source.left c.args.input.now in
     let command = chosen (texts c.args.words.now) in
     complete_printed (IsOwed files left command) c.in-Err-Due.due c.print_due-in-Err-Due.result _ _ _ _ _ _ _ _ c.print_due-in-Err-Due.ensures.printed (owed_always files left command c.in-Err-Due.due (rw c.in-Err-Due.field-0-is at c.in-Err-Due.ensures.halted)) c.print_due-in-Err-Due.ensures.text c.print_due-in-Err-Due.ensures.cause
+
+pub returns-in-Ok-Print-clause-shows : goal.returns-in-Ok-Print-clause-shows
+returns-in-Ok-Print-clause-shows g c =
+    shown_printed (g.St.Store.files c.args.store.now) (chosen (texts c.args.words.now)) c.in-Ok-Print.due c.print_due.result _ _ (rw c.in-Ok-Print.field-0-is at c.in-Ok-Print.ensures.shown) c.print_due.ensures.text
+
+pub returns-in-Ok-Stream-clause-shows : goal.returns-in-Ok-Stream-clause-shows
+returns-in-Ok-Stream-clause-shows g c =
+    λ done. shown_run (g.St.Store.files c.args.store.now) (chosen (texts c.args.words.now)) c.in-Ok-Stream.session.code _ _ (rw c.in-Ok-Stream.field-0-is at c.in-Ok-Stream.ensures.task).0
+
+pub returns-in-Ok-Stream-clause-answers : goal.returns-in-Ok-Stream-clause-answers
+returns-in-Ok-Stream-clause-answers g c =
+    λ reads. answers_run (g.St.Store.files c.args.store.now) (chosen (texts c.args.words.now)) c.in-Ok-Stream.session.code c.stream.result _ _ _ (rw c.in-Ok-Stream.field-0-is at c.in-Ok-Stream.ensures.task).0 c.stream.ensures.content
+
+pub returns-in-Err-Due-clause-shows : goal.returns-in-Err-Due-clause-shows
+returns-in-Err-Due-clause-shows g c =
+    λ done. absurd ((unopened_result c.in-Err-Due.due c.print_due-in-Err-Due.result _ _ (rw c.in-Err-Due.field-0-is at c.in-Err-Due.ensures.refused) c.print_due-in-Err-Due.ensures.text).0 done)
+
+pub returns-in-Err-Due-clause-answers : goal.returns-in-Err-Due-clause-answers
+returns-in-Err-Due-clause-answers g c =
+    λ reads answered. absurd ((unopened_result c.in-Err-Due.due c.print_due-in-Err-Due.result _ _ (rw c.in-Err-Due.field-0-is at c.in-Err-Due.ensures.refused) c.print_due-in-Err-Due.ensures.text).1 answered)

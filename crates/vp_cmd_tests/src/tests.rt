@@ -1,7 +1,7 @@
 //! Commands over objects in memory.
-use crate::{Status, vphy};
 use std::alloc::{AllocError, Global};
 use std::test::Fail;
+use vp_cmd::{Status, vphy};
 use vp_outside::{Files, Listed, MemSink, MemSource, MemStore, Text};
 
 /// The image of a code that acts as it is told.
@@ -20,94 +20,36 @@ const TARGET: &str =
 const INSTR: &str =
     "565048590001000101000400000001000000050e00000000000000000000000e01000000000000000000000000000000000000000000000e02000000000000000000000a000000000000000000000100000000000000000000000000000000000000000000000000000000000000001d011c8e1a4dfee07bd8f0826446d8b673e66662822085433c3e5e0e037d2977";
 
-/// A package: a tank that a flow fills and empties.
-const TANK: &str = "package 1;
-params H;
-states x;
-controls f;
-init x <= H;
-inv x <= H;
-safe x <= H;
-ctrl {f := *; ?f >= -3 & x + 10*f + 10 <= H;} ++ {f := -3;};
-time 0 to 10;
-flow x' = f;
-slack x from -tau to tau;
-domain true;
-fallback f = -3;
-cert init 1 {pos 1 of 2; sum 1 of 1;};
-cert safe 1 {pos 1 of 2; sum 1 of 1;};
-cert step 1 {pos 10 of 8; sum 1 of 5*1; sum 1 of 4*3; sum 10 of 7;};
-cert step 2 {pos 1 of 7; sum 1 of 1; sum 1 of 6; sum 2 of 3; eq 2 times (-tau);};
-cert fallback 1 {pos 1 of 4; eq 2 times (-1);};
-cert fallback 2 {pos 1 of 4; eq 2 times (1);};
-cert fallback 3 {pos 1 of 4; eq 2 times (-1);};
-cert fallback 4 {pos 1 of 4; eq 2 times (1);};
-";
-
-/// A package with a place and a speed, of which nothing is asked.
-const DOUBLE: &str = "package 1;
-params ;
-states x, v;
-controls a;
-init true;
-inv true;
-safe true;
-ctrl {a := *;};
-time 0 to 10;
-flow x' = v, v' = a;
-slack x from 0 to 0, v from 0 to 0;
-domain true;
-fallback a = 0;
-";
-
-/// The same where the controller and the fallback brake.
-const BRAKE: &str = "package 1;
-params ;
-states x, v;
-controls a;
-init true;
-inv true;
-safe true;
-ctrl {a := -v;};
-time 0 to 10;
-flow x' = v, v' = a;
-slack x from 0 to 0, v from 0 to 0;
-domain true;
-fallback a = -v;
-cert fallback 1 {pos 1 of 2; eq 1 times (-1);};
-cert fallback 2 {pos 1 of 2; eq 1 times (1);};
-";
-
 const EXAMPLE: &[u8] = b"i 0 0 0\nc 7\ns 1 1 0 0\n";
 
 const PRINTED: &[u8] = b"ok\nact chosen 7\nok\nend 1\n";
 
 /// What a command prints, and its status.
-type Answer = (Status, Vec<u8>);
+pub(crate) type Answer = (Status, Vec<u8>);
 
 /// What is given to a command: the one file, the input, and by what plan the objects give and take.
-/// The sink has room for 1,000 bytes.
+/// The sink has room for 1,000,000 bytes.
 #[derive(Clone, Copy)]
-struct Setting<'a> {
-    name: &'a str,
+pub(crate) struct Setting<'a> {
+    pub(crate) name: &'a str,
     file: &'a [u8],
-    input: &'a [u8],
-    cuts: &'a [u32],
-    source_fails: &'a [u64],
-    takes: u32,
-    sink_fails: &'a [u64],
-    store_fails: &'a [u64],
+    pub(crate) input: &'a [u8],
+    pub(crate) cuts: &'a [u32],
+    pub(crate) source_fails: &'a [u64],
+    pub(crate) takes: u32,
+    pub(crate) sink_fails: &'a [u64],
+    pub(crate) store_fails: &'a [u64],
 }
 
 /// No object fails, and each gives and takes what it can.
-fn unfailing<'a>(image: &'a [u8], input: &'a [u8]) -> Setting<'a> {
+pub(crate) fn unfailing<'a>(image: &'a [u8], input: &'a [u8]) -> Setting<'a> {
     Setting {
         name: "image",
         file: image,
         input,
         cuts: &[],
         source_fails: &[],
-        takes: 1000,
+        takes: 1_000_000,
         sink_fails: &[],
         store_fails: &[],
     }
@@ -126,7 +68,11 @@ fn words_of(alloc: Global, words: &[&str]) -> Result<Vec<String>, AllocError> {
 }
 
 /// The answer to words.
-fn answer_to(alloc: Global, words: &[&str], setting: &Setting) -> Result<Answer, AllocError> {
+pub(crate) fn answer_to(
+    alloc: Global,
+    words: &[&str],
+    setting: &Setting,
+) -> Result<Answer, AllocError> {
     let mut files = Vec::new(alloc);
     files.push((
         String::from_str(alloc, setting.name)?,
@@ -149,7 +95,7 @@ fn answer_to(alloc: Global, words: &[&str], setting: &Setting) -> Result<Answer,
     };
     let mut sink = MemSink::of(
         alloc,
-        1000,
+        1_000_000,
         setting.takes,
         setting.sink_fails.to_vec(alloc)?,
     )?;
@@ -158,28 +104,8 @@ fn answer_to(alloc: Global, words: &[&str], setting: &Setting) -> Result<Answer,
     Ok((status, sink.bytes.get().to_vec(alloc)?))
 }
 
-fn exec(alloc: Global, setting: &Setting) -> Result<Answer, AllocError> {
+pub(crate) fn exec(alloc: Global, setting: &Setting) -> Result<Answer, AllocError> {
     answer_to(alloc, &["exec", "image"], setting)
-}
-
-/// The file `p`, and nothing else.
-fn package<'a>(text: &'a [u8]) -> Setting<'a> {
-    let mut setting = unfailing(text, b"");
-    setting.name = "p";
-    setting
-}
-
-fn check(alloc: Global, text: &[u8]) -> Result<Answer, AllocError> {
-    answer_to(alloc, &["check", "p"], &package(text))
-}
-
-/// A text with one part of it replaced.
-fn edited(alloc: Global, text: &str, old: &str, new: &str) -> Result<Vec<u8>, Fail> {
-    let (front, back) = text.split_once(old).ok_or("no such part")?;
-    let mut found = front.as_bytes().to_vec(alloc)?;
-    found.extend_from_slice(new.as_bytes())?;
-    found.extend_from_slice(back.as_bytes())?;
-    Ok(found)
 }
 
 #[test]
@@ -232,7 +158,12 @@ fn lines_are_answered(rt: HostRuntime) -> Result<(), Fail> {
 }
 
 /// A line of so many bytes before its LF: `front`, and then one byte as often as needed.
-fn padded_line(alloc: Global, front: &[u8], byte: u8, len: usize) -> Result<Vec<u8>, AllocError> {
+pub(crate) fn padded_line(
+    alloc: Global,
+    front: &[u8],
+    byte: u8,
+    len: usize,
+) -> Result<Vec<u8>, AllocError> {
     let mut line = front.to_vec(alloc)?;
     for _ in front.len()..len {
         line.push(byte)?;
@@ -348,9 +279,9 @@ fn damaged_images_are_named(rt: HostRuntime) -> Result<(), Fail> {
 fn other_words_are_usage(rt: HostRuntime) -> Result<(), Fail> {
     let alloc = rt.alloc();
     let echo = bytes_of(alloc, ECHO)?;
-    let rows: [&[&str]; 12] = [
+    let rows: [&[&str]; 11] = [
         &[],
-        &["compile", "image"],
+        &["compile"],
         &["log", "image", "image"],
         &["selftest", "7", "0"],
         &["selftest", "+7", "100001"],
@@ -360,7 +291,6 @@ fn other_words_are_usage(rt: HostRuntime) -> Result<(), Fail> {
         &["check", "a", "b"],
         &["Check", "image"],
         &["Exec", "image"],
-        &["demo"],
     ];
     for words in rows {
         let (answered, printed) = answer_to(alloc, words, &unfailing(&echo, EXAMPLE))?;
@@ -441,126 +371,5 @@ fn a_failed_load_prints_nothing(rt: HostRuntime) -> Result<(), Fail> {
     let (answered, printed) = exec(alloc, &failing)?;
     assert_eq!(rt; answered, Status::StoreFault);
     assert_eq!(rt; printed.len(), 0);
-    Ok(())
-}
-
-/// Each text with the line that its check prints.
-#[test]
-fn texts_are_refused(rt: HostRuntime) -> Result<(), Fail> {
-    let alloc = rt.alloc();
-    let spaces = padded_line(alloc, b"", b' ', 1_048_577)?;
-    let full = padded_line(alloc, TANK.as_bytes(), b' ', 1_048_576)?;
-    let rows: [(&[u8], &[u8]); 8] = [
-        (b"", b"refused section 1\n"),
-        (b"$", b"refused lex 0\n"),
-        (b"package 4611686018427387904;", b"refused number 8\n"),
-        (&spaces[..spaces.len().min(1_048_577)], b"refused length\n"),
-        (&full[..full.len().min(1_048_576)], b"refused unbuilt\n"),
-        (TANK.as_bytes(), b"refused unbuilt\n"),
-        (DOUBLE.as_bytes(), b"refused unbuilt\n"),
-        (BRAKE.as_bytes(), b"refused unbuilt\n"),
-    ];
-    for (text, line) in rows {
-        let (answered, printed) = check(alloc, text)?;
-        assert_eq!(rt; answered, Status::Refused);
-        assert_eq!(rt; printed.as_slice(), line);
-    }
-    Ok(())
-}
-
-/// The tank with one part replaced, and the line that its check prints.
-#[test]
-fn changed_packages_are_refused(rt: HostRuntime) -> Result<(), Fail> {
-    let alloc = rt.alloc();
-    let rows: [(&str, &str, &[u8]); 21] = [
-        ("params H;", "params H, H;", b"refused twice H\n"),
-        ("init x <= H;", "init z <= H;", b"refused undeclared z 5\n"),
-        (
-            "flow x' = f;",
-            "flow x' = f, x' = f;",
-            b"refused entries 10 2\n",
-        ),
-        (
-            "params H;",
-            "params a1, a2, a3, a4, a5, a6, a7, a8, a9, a10, a11, a12, a13, a14, a15, a16, a17, a18, a19, a20, a21, a22, a23, a24, a25, a26, a27, H;",
-            b"refused names 33\n",
-        ),
-        (
-            "init x <= H;",
-            "init [[[[[[[[[[[[[[[[[[[[[[[[[[[[[[[[[x <= H]]]]]]]]]]]]]]]]]]]]]]]]]]]]]]]]];",
-            b"refused deep 5\n",
-        ),
-        (
-            "init x <= H;",
-            "init [[[[[[[[[[[[[[[[[[[[[[[[[[[[[[[[x <= H]]]]]]]]]]]]]]]]]]]]]]]]]]]]]]]];",
-            b"refused unbuilt\n",
-        ),
-        ("package 1;", "package 01;", b"refused section 1\n"),
-        (
-            "cert fallback 4 {pos 1 of 4; eq 2 times (1);};\n",
-            "cert fallback 4 {pos 1 of 4; eq 2 times (1);};\nx\n",
-            b"refused section 22\n",
-        ),
-        ("init x <= H;", "init x^013 <= H;", b"refused section 5\n"),
-        ("init x <= H;", "init x^012 <= H;", b"refused unbuilt\n"),
-        ("init x <= H;", "init a < b < c;", b"refused section 5\n"),
-        ("init x <= H;", "init - -x <= H;", b"refused section 5\n"),
-        ("init x <= H;", "init !x <= 1;", b"refused section 5\n"),
-        ("++ {f := -3;}", "else {f := -3;}", b"refused section 8\n"),
-        ("controls f;", "controls f", b"refused section 4\n"),
-        ("domain true;", "domain tau@ <= 1;", b"refused lex 205\n"),
-        (
-            "init x <= H;",
-            "init tau <= 1;",
-            b"refused undeclared tau 5\n",
-        ),
-        (
-            "init x <= H;",
-            "init x@ <= H;",
-            b"refused undeclared x@ 5\n",
-        ),
-        (
-            "init x <= H;\ninv x <= H;",
-            "init z <= H;\ninv;",
-            b"refused section 6\n",
-        ),
-        ("domain true;", "domain;", b"refused section 12\n"),
-        (
-            "fallback f = -3;",
-            "fallback f = 5/0;",
-            b"refused number 221\n",
-        ),
-    ];
-    for (old, new, line) in rows {
-        let text = edited(alloc, TANK, old, new)?;
-        let (answered, printed) = check(alloc, &text)?;
-        assert_eq!(rt; answered, Status::Refused);
-        assert_eq!(rt; printed.as_slice(), line);
-    }
-    Ok(())
-}
-
-/// What a check leaves where something outside fails.
-#[test]
-fn failed_checks_leave_a_front(rt: HostRuntime) -> Result<(), Fail> {
-    let alloc = rt.alloc();
-    let line = b"refused section 1\n";
-    for call in 0..line.len() {
-        let fails = [call as u64];
-        let mut failing = package(b"");
-        failing.takes = 1;
-        failing.sink_fails = &fails;
-        let (answered, printed) = answer_to(alloc, &["check", "p"], &failing)?;
-        assert_eq!(rt; answered, Status::WriteFault);
-        assert_eq!(rt; printed.as_slice(), &line[..call]);
-    }
-    let mut failing = package(b"");
-    failing.store_fails = &[0];
-    let rows: [(&str, Setting); 2] = [("q", package(b"")), ("p", failing)];
-    for (name, setting) in rows {
-        let (answered, printed) = answer_to(alloc, &["check", name], &setting)?;
-        assert_eq!(rt; answered, Status::StoreFault);
-        assert_eq!(rt; printed.len(), 0);
-    }
     Ok(())
 }
